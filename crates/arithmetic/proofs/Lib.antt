@@ -1,0 +1,4 @@
+pub mod Ring
+pub mod Congruence
+pub mod Words
+pub mod Squares

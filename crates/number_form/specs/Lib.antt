@@ -1,0 +1,5 @@
+pub mod Shifts
+pub mod Forms
+pub mod Plain
+pub mod CarrySave
+pub mod BorrowSave

@@ -1,0 +1,4 @@
+pub mod Products
+pub mod Starting
+pub mod Conversion
+pub mod Turning

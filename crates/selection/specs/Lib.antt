@@ -1,0 +1,4 @@
+pub mod Starts
+pub mod Operands
+pub mod Selectors
+pub mod Radix2
