@@ -39,7 +39,7 @@ whole-at K Q j h =
     let s : 2 ^ j * 2 ^ (Q - 1 * j) ≡ 2 ^ Q = ap (λ t. 2 ^ t * 2 ^ (Q - 1 * j)) (sym i) ∙ split 1 Q j h in
     whole K Q ∙ rw (← s) (omega arith)
 
-contained : (K Q x j y : ℕ) → 1 * j ≤ Q → Bound2 K j x y → Contained 1 1 K Q x j (y * 2 ^ (Q - 1 * j))
+pub contained : (K Q x j y : ℕ) → 1 * j ≤ Q → Bound2 K j x y → Contained 1 1 K Q x j (y * 2 ^ (Q - 1 * j))
 contained K Q x j y room b =
     shuts 1 1 K Q x j (y * 2 ^ (Q - 1 * j)) (rw (whole-at K Q j room) (grow 1 1 (2 ^ (Q - 1 * j)) x y (2 ^ K * (2 ^ j * 2 ^ j)) (pow-pos (Q - 1 * j)) (from-bound K j x y b)))
 

@@ -1,0 +1,2 @@
+pub mod DualRailLawful
+pub mod MiddleStartLawful

@@ -1,0 +1,2 @@
+pub mod DualRail
+pub mod MiddleStart
