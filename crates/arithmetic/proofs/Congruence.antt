@@ -46,4 +46,3 @@ pub record Size (h : ℕ) (n : ℤ) : Type 0 where
 
 pub signed : {h : ℕ} {n : ℤ} → Size h n → h < 2 ^ 63 → In-signed n
 signed {h} {n} z l = record { least = omega (arith, ints); most = omega (arith, ints) }
-

@@ -93,7 +93,7 @@ module _ (K Q x s : ℕ) (w Ŵ P̂ : ℤ) (sized : Sized K Q) (range : In-range 
       let v : 2 ^ (Q - 1 * 0) ≡ 2 * 2 ^ (Q - 1) = ap (λ k. 2 ^ k) none ∙ half Q (sized .places .0) in
       let N : 2 ^ (K + 2 * Q) ≡ 2 ^ K * (2 * 2 ^ (Q - 1) * (2 * 2 ^ (Q - 1))) = whole K Q ∙ ap (λ k. 2 ^ K * (k * k)) (half Q (sized .places .0)) in
       let is : up w * (2 * 2 ^ (Q - 1)) + x * (3 * 2 ^ (Q - 1) * (3 * 2 ^ (Q - 1))) ≡ 2 ^ K * (2 * 2 ^ (Q - 1) * (2 * 2 ^ (Q - 1))) + down w * (2 * 2 ^ (Q - 1)) =
-          rw (s-is, v, N) at (balanced 1 K Q x 0 s w (omega arith) r) in
+      rw (s-is, v, N) at (balanced 1 K Q x 0 s w (omega arith) r) in
       let scale : K + Q ≡ 2 + (K + Q - 2) = omega (arith, sized .width .0) in
       let four : 4 * 2 ^ (K + Q - 2) ≡ 2 ^ K * (2 * 2 ^ (Q - 1)) = sym (pow-add 2 2 (K + Q - 2)) ∙ ap (λ k. 2 ^ k) (sym scale) ∙ pow-add 2 K Q ∙ ap (λ k. 2 ^ K * k) (half Q (sized .places .0)) in
       let unit : 2 * 2 ^ (K + Q - 2) ≡ 2 ^ K * 2 ^ (Q - 1) = omega arith in
@@ -105,8 +105,8 @@ module _ (K Q x s : ℕ) (w Ŵ P̂ : ℤ) (sized : Sized K Q) (range : In-range 
       let n = natural 3 1 (choice-2 Ŵ (pos 0)) (omega arith) (least Ŵ) in
       let b : Bound2 K 1 x (n .0) = first-digit K x Ŵ (P .some) (P .quarter) (P .operand) low high (n .0) (n .1) in
       let moved : pos (n .0 * 2 ^ (Q - 1 * 1)) ≡ pos s +ℤ choice-2 Ŵ (pos 0) *ℤ pos (2 ^ (Q - 1 * 1)) =
-          ap (λ z. z *ℤ pos (2 ^ (Q - 1 * 1))) (n .1) ∙ add-*ℤ (pos 3) (choice-2 Ŵ (pos 0)) (pos (2 ^ (Q - 1 * 1)))
-          ∙ ap (λ k. pos k +ℤ choice-2 Ŵ (pos 0) *ℤ pos (2 ^ (Q - 1 * 1))) (ap (λ k. 3 * 2 ^ k) place ∙ sym s-is) in
+      ap (λ z. z *ℤ pos (2 ^ (Q - 1 * 1))) (n .1) ∙ add-*ℤ (pos 3) (choice-2 Ŵ (pos 0)) (pos (2 ^ (Q - 1 * 1)))
+      ∙ ap (λ k. pos k +ℤ choice-2 Ŵ (pos 0) *ℤ pos (2 ^ (Q - 1 * 1))) (ap (λ k. 3 * 2 ^ k) place ∙ sym s-is) in
       (n .0 * 2 ^ (Q - 1 * 1), rw q moved, contained K Q x 1 (n .0) (omega (arith, sized .places .0)) b)
     where
       least : (E : ℤ) → negℤ (pos 1) ≤ℤ choice-2 E (pos 0)

@@ -1,6 +1,5 @@
 ghost use mathlib.Core.Path.{_≡_};
 ghost use Rattle.foreign.specs.DualRail.{dual-rail, both-rails};
-
 use arithmetic::signed_of;
 use arithmetic::times;
 use arithmetic::word_of;

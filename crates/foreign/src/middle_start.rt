@@ -1,5 +1,4 @@
 ghost use Rattle.foreign.specs.MiddleStart.{middle-start};
-
 use selection::Selector;
 use selection::radix2::Radix2;
 use selection::radix2::Radix2Selector;
@@ -11,8 +10,11 @@ pub struct MiddleStart;
 
 pub impl Selector for MiddleStart as MiddleStartSelector {
     const B: u32 = 1;
+
     const A: u32 = 1;
+
     const T: u32 = 2;
+
     const D: u32 = 0;
 
     ghost model = { λ _. middle-start };

@@ -1,7 +1,7 @@
 ghost use mathlib.Core.Path.{_≡_};
+ghost use lib.IntN.{pos, _*ℤ_, negℤ};
 ghost use Rattle.arithmetic.specs.Residues.{word};
 ghost use Rattle.number_form.specs.BorrowSave.{borrow-save, borrowed, cut};
-
 use crate::NumberForm;
 use crate::cut::Cut;
 use crate::shift::Shift;
@@ -35,7 +35,7 @@ pub impl NumberForm for BorrowSave as BorrowSaveForm {
 
     fn add_multiple(&self, w: Words, c: i64, other: Words) -> Words {
         let with_first = borrow_in(w, times(other.first, c));
-        borrow_in(with_first, difference(0, times(other.second, c)))
+        borrow_in(with_first, minus_times(other.second, c))
     }
 
     fn estimate(&self, w: Words, at: Cut) -> i64 {
@@ -58,6 +58,13 @@ fn borrow_in(w: Words, n: u64) -> Words
         first: ((first & n) | (first & inverted) | (n & inverted)) << 1,
         second: first ^ n ^ second,
     }
+}
+
+/// Multiplies a word by -c, modulo 2^64.
+fn minus_times(bits: u64, c: i64) -> u64
+    ensures { λ r. ⌜ r ≡ word (negℤ (c *ℤ pos bits)) ⌝ }
+{
+    difference(0, times(bits, c))
 }
 
 /// Subtracts the second word from the first, each cut to its bits from a place up, and one unit of that place.

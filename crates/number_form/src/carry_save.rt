@@ -1,6 +1,5 @@
 ghost use mathlib.Core.Path.{_≡_};
 ghost use Rattle.number_form.specs.CarrySave.{carry-save, carried};
-
 use crate::NumberForm;
 use crate::cut::Cut;
 use crate::shift::Shift;

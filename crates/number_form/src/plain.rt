@@ -1,7 +1,6 @@
 ghost use Rattle.arithmetic.specs.Estimates.{shortfall};
 ghost use Rattle.number_form.specs.Forms.{Lawful-form};
 ghost use Rattle.number_form.specs.Plain.{plain};
-
 use crate::NumberForm;
 use crate::cut::Cut;
 use crate::shift::Shift;
@@ -21,8 +20,7 @@ pub impl NumberForm for Plain as PlainForm {
     fn lawful(&self)
         ensures laws { λ _. ⌜ Lawful-form shortfall plain ⌝ }
         ensures one_unit { λ _. ⌜ Lawful-form 1 plain ⌝ }
-    {
-    }
+    {}
 
     fn set(&self, n: i64) -> Words {
         Words::in_first(n)

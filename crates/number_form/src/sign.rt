@@ -1,7 +1,6 @@
 ghost use mathlib.Core.Path.{_≡_};
 ghost use Rattle.arithmetic.specs.Residues.{signed};
 ghost use Rattle.number_form.specs.Forms.{sign-of};
-
 use arithmetic::signed_of;
 
 /// The sign of a number's signed reading.

@@ -1,7 +1,6 @@
 ghost use mathlib.Core.Path.{_≡_};
 ghost use Rattle.number_form.specs.Forms.{in-first, shifted};
 ghost use Rattle.number_form.specs.Shifts.{places};
-
 use crate::shift::Shift;
 use arithmetic::word_of;
 

@@ -3,7 +3,6 @@ ghost use Prim.Native.Nat.{_+_, _*_, _^_, _<_, _≤_};
 ghost use lib.IntN.{pos, negℤ, natAbs};
 ghost use lib.Signed.{_≤ℤ_, _<ℤ_};
 ghost use Rattle.recurrence.specs.Recurrence.{terms, appended, next-s, next-below};
-
 use crate::registers::Partial;
 use crate::registers::Terms;
 

@@ -3,7 +3,6 @@ ghost use Prim.Native.Nat.{_+_, _^_, _≤_};
 ghost use lib.IntN.{pos};
 ghost use lib.Signed.{_≤ℤ_};
 ghost use Rattle.recurrence.specs.Recurrence.{first-residual, first-product, first-partial, first-registers};
-
 use crate::digit::at_place;
 use crate::registers::Partial;
 use crate::registers::Registers;
@@ -15,7 +14,11 @@ use selection::start::Start;
 
 impl Running {
     /// Sets the registers for an operand.
-    pub(crate) fn new<S: Selector, F: NumberForm>(selector: &S, form: &F, operand: Operand) -> Running
+    pub(crate) fn new<S: Selector, F: NumberForm>(
+        selector: &S,
+        form: &F,
+        operand: Operand,
+    ) -> Running
         ensures { λ r. ⌜ r .registers ≡ first-registers (S·Selector .model (now (selector .entry))) (F·NumberForm .model (now (form .entry))) (operand .k) (operand .q) (operand .x) ⌝ }
     {
         let start = selector.start(operand.k, operand.x);

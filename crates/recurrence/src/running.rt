@@ -1,6 +1,5 @@
 ghost use mathlib.Core.Path.{_≡_};
 ghost use Prim.Native.Nat.{_+_, _^_, _≤_};
-
 use crate::registers::Registers;
 
 /// A job under way. Its invariant holds for every selector, and makes every sum of a turn safe.

@@ -7,7 +7,6 @@ ghost use lib.Signed.{_<ℤ_};
 ghost use Rattle.std.specs.declared.option.Option.the-variants.{Some, None};
 ghost use Rattle.number_form.specs.Shifts.{places};
 ghost use Rattle.recurrence.specs.Recurrence.{chosen, chosen-from, complete, turned, result};
-
 use crate::digit::at_place;
 use crate::registers::Choice;
 use crate::registers::Outcome;
@@ -23,7 +22,11 @@ use selection::Selector;
 
 impl Running {
     /// Makes one digit, and tells how it was chosen; where none is left to make, it tells nothing and changes nothing.
-    pub(crate) fn turn<S: Selector, F: NumberForm>(&mut self, selector: &S, form: &F) -> Option<Choice>
+    pub(crate) fn turn<S: Selector, F: NumberForm>(
+        &mut self,
+        selector: &S,
+        form: &F,
+    ) -> Option<Choice>
         ensures tells { λ r. ⌜ r ≡ cond (complete (S·Selector .model (now (selector .entry))) (now (self .entry) .registers)) None (Some (chosen (S·Selector .model (now (selector .entry))) (F·NumberForm .model (now (form .entry))) (now (self .entry) .registers))) ⌝ }
         ensures after { λ _. ⌜ now (self .exit) .registers ≡ turned (S·Selector .model (now (selector .entry))) (F·NumberForm .model (now (form .entry))) (now (self .entry) .registers) ⌝ }
     {
@@ -37,7 +40,10 @@ impl Running {
         let place = before.place - bits;
         let shifted = form.shift(before.residual, shift_by(bits));
         let choice = pick(selector, form, before.k + before.q, shifted, before.product);
-        let terms = Terms::of(i64::from(choice.digit), at_place(u64::from(before.factor), place));
+        let terms = Terms::of(
+            i64::from(choice.digit),
+            at_place(u64::from(before.factor), place),
+        );
         let less_multiple = form.add_multiple(shifted, terms.multiple, before.product);
         let residual = form.add(less_multiple, terms.square);
         let product = form.add(before.product, terms.once);
@@ -84,7 +90,13 @@ impl Running {
 }
 
 /// Chooses a digit from the shifted residual and the product, which are kept times 2^scale.
-pub(crate) fn pick<S: Selector, F: NumberForm>(selector: &S, form: &F, scale: u32, shifted: Words, product: Words) -> Choice
+pub(crate) fn pick<S: Selector, F: NumberForm>(
+    selector: &S,
+    form: &F,
+    scale: u32,
+    shifted: Words,
+    product: Words,
+) -> Choice
     requires { ⌜ 6 ≤ scale ⌝ ∗ ⌜ scale ≤ 60 ⌝ }
     ensures is { λ r. ⌜ r ≡ chosen-from (S·Selector .model (now (selector .entry))) (F·NumberForm .model (now (form .entry))) scale shifted product ⌝ }
     ensures least { λ r. ⌜ negℤ (pos (2 ^ S·Selector .model (now (selector .entry)) .bits)) <ℤ r .digit ⌝ }

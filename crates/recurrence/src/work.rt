@@ -1,6 +1,5 @@
 ghost use mathlib.Core.Path.{_≡_};
 ghost use Rattle.recurrence.specs.Recurrence.{seen, begun, job-turned, turn-told, made, left, registers, outcome, worked, quarter-outcome};
-
 use crate::job::Job;
 use crate::registers::Choice;
 use crate::registers::Outcome;

@@ -1,7 +1,6 @@
 ghost use mathlib.Core.Path.{_≡_};
 ghost use mathlib.Core.Bool.{true};
 ghost use Rattle.selection.specs.Operands.{Checked, quarter};
-
 use crate::operand::Operand;
 use crate::refusal::Refusal;
 

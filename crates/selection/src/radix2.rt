@@ -3,7 +3,6 @@ ghost use Rattle.arithmetic.specs.Estimates.{shortfall};
 ghost use Rattle.selection.specs.Operands.{Sized, In-range};
 ghost use Rattle.selection.specs.Selectors.{Lawful-selector, Contains};
 ghost use Rattle.selection.specs.Radix2.{radix-2};
-
 use crate::Selector;
 use crate::is_beyond;
 use crate::start::Start;
@@ -14,8 +13,11 @@ pub struct Radix2;
 
 pub impl Selector for Radix2 as Radix2Selector {
     const B: u32 = 1;
+
     const A: u32 = 1;
+
     const T: u32 = 2;
+
     const D: u32 = 0;
 
     ghost model = { λ _. radix-2 };
@@ -23,8 +25,7 @@ pub impl Selector for Radix2 as Radix2Selector {
     fn lawful(&self)
         ensures laws { λ _. ⌜ Lawful-selector shortfall radix-2 ⌝ }
         ensures every_operand { λ _. ⌜ ((K Q x : ℕ) → Sized K Q → In-range K x → Contains shortfall radix-2 K Q x) ⌝ }
-    {
-    }
+    {}
 
     fn digit_bits(&self) -> u32 {
         Self::B

@@ -1,6 +1,5 @@
 ghost use mathlib.Core.Path.{_≡_};
 ghost use Rattle.selection.specs.Operands.{number};
-
 use std::fmt;
 
 /// Why an operand is refused.

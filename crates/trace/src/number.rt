@@ -1,20 +1,25 @@
+use number_form::words::Words;
 use std::fmt;
 
 /// A number n / 2^places, shown in binary with all its places.
 #[derive(Drop)]
-pub struct Binary {
-    pub n: u32,
-    pub places: u32,
+pub(crate) struct Binary {
+    pub(crate) n: u32,
+    pub(crate) places: u32,
 }
 
 /// A number n / 2^places, shown as the decimal fraction that it is.
 #[derive(Drop)]
-pub struct Decimal {
-    pub n: u32,
-    pub places: u32,
+pub(crate) struct Decimal {
+    pub(crate) n: u32,
+    pub(crate) places: u32,
 }
 
-pub impl fmt::Display for Binary as BinaryDisplay {
+/// Both words of a number, shown in hexadecimal.
+#[derive(Drop)]
+pub(crate) struct Hexadecimal(pub(crate) Words);
+
+pub(crate) impl fmt::Display for Binary as BinaryDisplay {
     fn fmt<W: fmt::Write>(&self, f: &mut fmt::Formatter<W>) -> fmt::Result {
         let places = self.places.min(31);
         let whole = self.n >> places;
@@ -27,7 +32,7 @@ pub impl fmt::Display for Binary as BinaryDisplay {
     }
 }
 
-pub impl fmt::Display for Decimal as DecimalDisplay {
+pub(crate) impl fmt::Display for Decimal as DecimalDisplay {
     fn fmt<W: fmt::Write>(&self, f: &mut fmt::Formatter<W>) -> fmt::Result {
         let places = self.places.min(31);
         let whole = self.n >> places;
@@ -43,5 +48,12 @@ pub impl fmt::Display for Decimal as DecimalDisplay {
             }
         }
         Ok(())
+    }
+}
+
+pub(crate) impl fmt::Display for Hexadecimal as HexadecimalDisplay {
+    fn fmt<W: fmt::Write>(&self, f: &mut fmt::Formatter<W>) -> fmt::Result {
+        let Words { first, second } = self.0;
+        write!(f, "{first:016x} {second:016x}")
     }
 }

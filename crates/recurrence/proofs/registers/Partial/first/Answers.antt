@@ -28,7 +28,7 @@ whole : (q h : ℕ) (start : Start) → h ≡ halves start → In-partial q (h *
       is : _≡_ {A = Partial} (record { s = (h * 2 ^ (q - 1)) % 2 ^ 32; below = (h * 2 ^ (q - 1)) % 2 ^ 32 - (1 * 2 ^ q) % 2 ^ 32 }) (first-partial q start);
       least : 2 ^ q ≤ (h * 2 ^ (q - 1)) % 2 ^ 32;
       most : (h * 2 ^ (q - 1)) % 2 ^ 32 + 2 ^ q ≤ 2 ^ (q + 2);
-      below : (h * 2 ^ (q - 1)) % 2 ^ 32 - (1 * 2 ^ q) % 2 ^ 32 + 2 ^ q ≡ (h * 2 ^ (q - 1)) % 2 ^ 32
+      below : (h * 2 ^ (q - 1)) % 2 ^ 32 - (1 * 2 ^ q) % 2 ^ 32 + 2 ^ q ≡ (h * 2 ^ (q - 1)) % 2 ^ 32;
     }
 whole q h start e s =
     let w = word q h s in

@@ -56,11 +56,22 @@ ghost-self g c =
     let whole : 2 ^ before .place ≡ r * 2 ^ p = ap (λ k. 2 ^ k) split ∙ pow-add 2 b p ∙ ap (λ k. k * 2 ^ p) (sym (c .radix-of-radix .ensures .is)) in
     let v = converted (2 ^ (before .q + 2)) r p (before .partial) (omega (arith, u .below)) (omega (arith, u .most)) q low high in
     let s-is : c .append-partial .result .s ≡ next-s (pos r) q p (before .partial) = ap (λ (k : Partial). k .s) (c .append-partial .ensures) in
-    let below-is : c .append-partial .result .below ≡ next-below (pos r) q p (before .partial) = ap (λ (k : Partial). k .below) (c .append-partial .ensures) in
-    (u .width, ((u .places .0, u .places .1, omega arith), (u .factor, (
-      subst (λ k. 2 ^ p ≤ k) (sym s-is) (v .least),
-      (subst (λ k. k + 2 ^ p ≤ 2 ^ (before .q + 2)) (sym s-is) (v .most),
-      (ap (λ k. k + 2 ^ p) below-is ∙ v .below ∙ sym s-is, tt))))))
+    let below-is : c .append-partial .result .below ≡ next-below (pos r) q p (before .partial) = ap (λ (k : Partial). k .below) (c .append-partial .ensures) in (
+      u .width,
+      (
+        (u .places .0, u .places .1, omega arith),
+        (
+          u .factor,
+          (
+            subst (λ k. 2 ^ p ≤ k) (sym s-is) (v .least),
+            (
+              subst (λ k. k + 2 ^ p ≤ 2 ^ (before .q + 2)) (sym s-is) (v .most),
+              (ap (λ k. k + 2 ^ p) below-is ∙ v .below ∙ sym s-is, tt),
+            ),
+          ),
+        ),
+      ),
+    )
 
 not-less : (m n : ℕ) → n ≤ m → ltb m n ≡ false
 not-less m n h = grind (arith, tells)
