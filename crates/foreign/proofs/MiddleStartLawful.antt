@@ -12,7 +12,7 @@ use Rattle.arithmetic.specs.Estimates.{shortfall, Estimates}
 use Rattle.arithmetic.proofs.Ring.{add-*ℤ}
 use Rattle.selection.specs.Operands.{Sized, In-range, Contained}
 use Rattle.selection.specs.Selectors.{Residual, Lawful-selector, Contains, beyond, guarded}
-use Rattle.selection.specs.Radix2.{choice-2, radix-2}
+use Rattle.selection.specs.Radix2.{down-from, up-from, choice-2, radix-2}
 use Rattle.selection.proofs.Range.{plain, above-quarter, whole, Sides, shuts, balanced}
 use Rattle.selection.proofs.Scale.{natural}
 use Rattle.selection.proofs.Guard.{guard-still}
@@ -38,24 +38,24 @@ module _ (P H x U : ℕ) (w E : ℤ) (H-pos : 0 < H) (unit : 2 * U ≡ P * H) (i
 module _ (K x : ℕ) (E : ℤ) (some : 0 < x) (quarter : 2 ^ K ≤ 4 * x) (operand : x < 2 ^ K) (below : up E * 2 ^ K + 18 * x ≤ 8 * 2 ^ K + down E * 2 ^ K)
     (near : 8 * 2 ^ K + down E * 2 ^ K < up E * 2 ^ K + 18 * x + 2 * 2 ^ K) where
   first-digit : (y : ℕ) → pos y ≡ pos 3 +ℤ choice-2 E (pos 0) → Bound2 K 1 x y
-  first-digit y e = go (leZ E (negsuc 1)) (leZ (pos 1) E) refl refl e
+  first-digit y e = go (leZ E down-from) (leZ up-from E) refl refl e
     where
-      go : (c d : Bool) → leZ E (negsuc 1) ≡ c → leZ (pos 1) E ≡ d → pos y ≡ pos 3 +ℤ cond c (negsuc 0) (cond d (pos 1) (pos 0)) → Bound2 K 1 x y
+      go : (c d : Bool) → leZ E down-from ≡ c → leZ up-from E ≡ d → pos y ≡ pos 3 +ℤ cond c (negsuc 0) (cond d (pos 1) (pos 0)) → Bound2 K 1 x y
       go true d p r m =
-          let l : E ≤ℤ negsuc 1 = grind (arith, ints) in
-          let k = mul-le-mul-right (2 ^ K) (le-out E (negsuc 1) l) in
+          let l : E ≤ℤ down-from = grind (arith, ints) in
+          let k = mul-le-mul-right (2 ^ K) (le-out E down-from l) in
           let is : y ≡ 2 = omega (arith, ints) in
           rw is (record { one = omega arith; low = omega arith; high = omega (arith, k) })
       go false true p r m =
-          let l : pos 1 ≤ℤ E = grind (arith, ints) in
-          let k = mul-le-mul-right (2 ^ K) (le-out (pos 1) E l) in
+          let l : up-from ≤ℤ E = grind (arith, ints) in
+          let k = mul-le-mul-right (2 ^ K) (le-out up-from E l) in
           let is : y ≡ 4 = omega (arith, ints) in
           rw is (record { one = omega arith; low = omega (arith, k); high = omega arith })
       go false false p r m =
-          let l : negsuc 1 <ℤ E = grind (arith, ints) in
-          let h : E <ℤ pos 1 = grind (arith, ints) in
-          let k = mul-le-mul-right (2 ^ K) (lt-out (negsuc 1) E l) in
-          let n = mul-le-mul-right (2 ^ K) (lt-out E (pos 1) h) in
+          let l : down-from <ℤ E = grind (arith, ints) in
+          let h : E <ℤ up-from = grind (arith, ints) in
+          let k = mul-le-mul-right (2 ^ K) (lt-out down-from E l) in
+          let n = mul-le-mul-right (2 ^ K) (lt-out E up-from h) in
           let is : y ≡ 3 = omega (arith, ints) in
           rw is (record { one = omega arith; low = omega (arith, k, n); high = omega (arith, k, n) })
 
@@ -110,7 +110,7 @@ module _ (K Q x s : ℕ) (w Ŵ P̂ : ℤ) (sized : Sized K Q) (range : In-range 
       (n .0 * 2 ^ (Q - 1 * 1), rw q moved, contained K Q x 1 (n .0) (omega (arith, sized .places .0)) b)
     where
       least : (E : ℤ) → negℤ (pos 1) ≤ℤ choice-2 E (pos 0)
-      least E = go (leZ E (negsuc 1)) (leZ (pos 1) E)
+      least E = go (leZ E down-from) (leZ up-from E)
         where
           go : (c d : Bool) → negℤ (pos 1) ≤ℤ cond c (negsuc 0) (cond d (pos 1) (pos 0))
           go true d = omega (arith, ints)

@@ -43,7 +43,7 @@ pub impl Selector for MiddleStart as MiddleStartSelector {
         Start::ThreeHalves
     }
 
-    fn digit(&self, residual: i64, product: i64) -> i8 {
+    fn digit(&self, residual: i64, product: i64) -> i64 {
         Radix2.digit(residual, product)
     }
 }

@@ -1,1 +1,3 @@
 pub mod Recurrence
+pub mod Root
+pub mod Stages

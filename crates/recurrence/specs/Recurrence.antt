@@ -63,11 +63,15 @@ chosen S F c = chosen-from S F (c .k + c .q) (F .shift (S .bits) (c .residual)) 
 
 -- what a digit q adds, where its operand term is x times 2 ^ (K + Q) at the digit's place
 abbrev pub terms : ℤ → ℤ → Terms
-terms q term = record { multiple = negℤ (pos 2 *ℤ q); square = negℤ (q *ℤ q *ℤ term); once = q *ℤ term }
+terms q term = record { multiple = negℤ (pos 2 *ℤ q); square = negℤ (q *ℤ (q *ℤ term)); once = q *ℤ term }
+
+-- What a digit's terms make of the shifted residual: the multiple of the product is added, and then the operand term.
+abbrev pub reduced-by : Form-model → Terms → Words → Words → Words
+reduced-by F y product shifted = F .add (y .square) (F .add-multiple (y .multiple) product shifted)
 
 -- The residual, shifted: -2q times the product is added, and then -q ^ 2 times the operand term.
 abbrev pub reduced : Form-model → ℤ → ℤ → Words → Words → Words
-reduced F q term product shifted = F .add (terms q term .square) (F .add-multiple (terms q term .multiple) product shifted)
+reduced F q term product shifted = reduced-by F (terms q term) product shifted
 
 -- On-the-fly conversion, with the digit q of radix r at the place p: the next S is S plus q there where q is not negative, and else S less
 -- one unit of the last place plus r + q there.

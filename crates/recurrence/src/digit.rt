@@ -22,24 +22,24 @@ impl Terms {
         requires { ⌜ pos 0 ≤ℤ term ⌝ ∗ ⌜ term ≤ℤ pos (2 ^ 56) ⌝ }
         ensures { λ r. ⌜ r ≡ terms digit term ⌝ }
     {
+        let once = digit * term;
         Terms {
-            multiple: -(2 * digit),
-            square: -(digit * digit * term),
-            once: digit * term,
+            multiple: -2 * digit,
+            square: -(digit * once),
+            once,
         }
     }
 }
 
 impl Partial {
     /// Appends a digit at its place.
-    pub(crate) fn append(self, radix: u32, digit: i8, place: u32) -> Partial
+    pub(crate) fn append(self, radix: u32, digit: i64, place: u32) -> Partial
         requires { ⌜ 2 ≤ radix ⌝ ∗ ⌜ radix ≤ 4 ⌝ ∗ ⌜ place ≤ 28 ⌝ }
         requires { ⌜ negℤ (pos radix) <ℤ digit ⌝ ∗ ⌜ digit <ℤ pos radix ⌝ }
         requires { ⌜ self .s ≤ 2 ^ 30 ⌝ ∗ ⌜ self .below ≤ 2 ^ 30 ⌝ }
         ensures { λ r. ⌜ r ≡ appended radix digit place self ⌝ }
     {
-        let radix = radix as i32;
-        let digit = i32::from(digit);
+        let radix = i64::from(radix);
         Partial {
             s: self.next_s(radix, digit, place),
             below: self.next_below(radix, digit, place),
@@ -47,7 +47,7 @@ impl Partial {
     }
 
     /// Gives the next S.
-    fn next_s(self, radix: i32, digit: i32, place: u32) -> u32
+    fn next_s(self, radix: i64, digit: i64, place: u32) -> u32
         requires { ⌜ radix ≤ℤ pos 4 ⌝ ∗ ⌜ place ≤ 28 ⌝ }
         requires { ⌜ negℤ radix <ℤ digit ⌝ ∗ ⌜ digit <ℤ radix ⌝ }
         requires { ⌜ self .s ≤ 2 ^ 30 ⌝ ∗ ⌜ self .below ≤ 2 ^ 30 ⌝ }
@@ -61,7 +61,7 @@ impl Partial {
     }
 
     /// Gives the next S less one unit of the last place.
-    fn next_below(self, radix: i32, digit: i32, place: u32) -> u32
+    fn next_below(self, radix: i64, digit: i64, place: u32) -> u32
         requires { ⌜ radix ≤ℤ pos 4 ⌝ ∗ ⌜ place ≤ 28 ⌝ }
         requires { ⌜ negℤ radix <ℤ digit ⌝ ∗ ⌜ digit <ℤ radix ⌝ }
         requires { ⌜ self .s ≤ 2 ^ 30 ⌝ ∗ ⌜ self .below ≤ 2 ^ 30 ⌝ }
@@ -76,7 +76,7 @@ impl Partial {
 }
 
 /// Puts a digit that is not negative at its place.
-fn digit_at_place(digit: i32, place: u32) -> u32
+fn digit_at_place(digit: i64, place: u32) -> u32
     requires { ⌜ pos 0 ≤ℤ digit ⌝ ∗ ⌜ digit ≤ℤ pos 3 ⌝ ∗ ⌜ place ≤ 28 ⌝ }
     ensures is { λ r. ⌜ r ≡ natAbs digit * 2 ^ place ⌝ }
     ensures most { λ r. ⌜ r ≤ 3 * 2 ^ 28 ⌝ }

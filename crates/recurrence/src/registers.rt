@@ -35,7 +35,7 @@ pub struct Choice {
     pub residual: i64,
     /// The estimate of the product.
     pub product: i64,
-    pub digit: i8,
+    pub digit: i64,
 }
 
 /// What a job comes to: f is the largest number with X (f / 2^Q)^2 at most 1.

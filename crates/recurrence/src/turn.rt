@@ -6,7 +6,7 @@ ghost use lib.IntN.{pos, negℤ};
 ghost use lib.Signed.{_<ℤ_};
 ghost use Rattle.std.specs.declared.option.Option.the-variants.{Some, None};
 ghost use Rattle.number_form.specs.Shifts.{places};
-ghost use Rattle.recurrence.specs.Recurrence.{chosen, chosen-from, complete, turned, result};
+ghost use Rattle.recurrence.specs.Recurrence.{chosen, chosen-from, complete, reduced-by, turned, result};
 use crate::digit::at_place;
 use crate::registers::Choice;
 use crate::registers::Outcome;
@@ -40,12 +40,8 @@ impl Running {
         let place = before.place - bits;
         let shifted = form.shift(before.residual, shift_by(bits));
         let choice = pick(selector, form, before.k + before.q, shifted, before.product);
-        let terms = Terms::of(
-            i64::from(choice.digit),
-            at_place(u64::from(before.factor), place),
-        );
-        let less_multiple = form.add_multiple(shifted, terms.multiple, before.product);
-        let residual = form.add(less_multiple, terms.square);
+        let terms = Terms::of(choice.digit, at_place(u64::from(before.factor), place));
+        let residual = reduce(form, terms, before.product, shifted);
         let product = form.add(before.product, terms.once);
         let partial = before.partial.append(radix, choice.digit, place);
         self.registers = Registers {
@@ -117,6 +113,14 @@ pub(crate) fn pick<S: Selector, F: NumberForm>(
         product,
         digit,
     }
+}
+
+/// Adds to the shifted residual what a digit adds: first the multiple of the product, then the operand term.
+fn reduce<F: NumberForm>(form: &F, terms: Terms, product: Words, shifted: Words) -> Words
+    ensures { λ r. ⌜ r ≡ reduced-by (F·NumberForm .model (now (form .entry))) terms product shifted ⌝ }
+{
+    let less_multiple = form.add_multiple(shifted, terms.multiple, product);
+    form.add(less_multiple, terms.square)
 }
 
 /// Gives the shift by a digit's bits.

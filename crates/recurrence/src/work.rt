@@ -1,4 +1,10 @@
 ghost use mathlib.Core.Path.{_≡_};
+ghost use mathlib.Core.Bool.{false};
+ghost use Prim.Native.Nat.{ℕ};
+ghost use Rattle.arithmetic.specs.Estimates.{shortfall};
+ghost use Rattle.selection.specs.Operands.{quarter};
+ghost use Rattle.recurrence.specs.Root.{Reciprocal-root, Exactness};
+ghost use Rattle.recurrence.specs.Stages.{Kept};
 ghost use Rattle.recurrence.specs.Recurrence.{seen, begun, job-turned, turn-told, made, left, registers, outcome, worked, quarter-outcome};
 use crate::job::Job;
 use crate::registers::Choice;
@@ -9,8 +15,21 @@ use number_form::NumberForm;
 use selection::Selector;
 use selection::operand::Operand;
 
-/// Works an operand off by all its digits.
+/// Works an operand off by all its digits. The outcome is read off the registers after Q / b turns of the one step; it is the largest f with
+/// X (f / 2^Q)^2 at most 1, whatever the selector and the form, and at every stage on the way the registers mean what they should.
 pub fn work<S: Selector, F: NumberForm>(selector: &S, form: &F, operand: Operand) -> Outcome
+    ensures turns { λ r. ⌜ r ≡ worked (S·Selector .model (now (selector .entry))) (F·NumberForm .model (now (form .entry))) (operand .k) (operand .q) (operand .x) ⌝ }
+    ensures root { λ r. ⌜ Reciprocal-root (operand .k) (operand .q) (operand .x) (r .f) ⌝ }
+    ensures no_other { λ r. ⌜ ((g : ℕ) → Reciprocal-root (operand .k) (operand .q) (operand .x) g → g ≡ r .f) ⌝ }
+    ensures exactness { λ r. ⌜ Exactness (operand .k) (operand .q) (operand .x) (r .f) (r .exact) ⌝ }
+    ensures stages { λ _. ⌜ (quarter (operand .k) (operand .x) ≡ false → Kept shortfall (S·Selector .model (now (selector .entry))) (F·NumberForm .model (now (form .entry))) (operand .k) (operand .q) (operand .x)) ⌝ }
+{
+    selector.lawful();
+    form.lawful();
+    make_all_turns(selector, form, operand)
+}
+
+fn make_all_turns<S: Selector, F: NumberForm>(selector: &S, form: &F, operand: Operand) -> Outcome
     ensures { λ r. ⌜ r ≡ worked (S·Selector .model (now (selector .entry))) (F·NumberForm .model (now (form .entry))) (operand .k) (operand .q) (operand .x) ⌝ }
 {
     if operand.is_quarter() {

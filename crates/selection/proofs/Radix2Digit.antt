@@ -9,6 +9,7 @@ use lib.IntN.{ℤ, pos, negsuc, _+ℤ_, _-ℤ_, _*ℤ_}
 use lib.Signed.{leZ, _<ℤ_, _≤ℤ_}
 use borrow.Author.Differences.{ints, le-out, lt-out}
 use Rattle.arithmetic.proofs.Ring.{add-*ℤ}
+use Rattle.selection.specs.Radix2.{down-from, up-from, choice-2}
 
 -- radix 2: |S - 1/√X| < 2^-j, squared and multiplied out
 pub record Bound2 (K j x s : ℕ) : Type 0 where
@@ -26,7 +27,7 @@ pub record Estimate2 (K j x s : ℕ) (w : ℤ) : Type 0 where
   pub near : (pos 8 *ℤ rest2 K j x s) <ℤ ((w +ℤ pos 2) *ℤ pos (2 ^ K * 2 ^ j))
 
 abbrev pub digit2 : ℤ → ℤ
-digit2 w = cond (leZ w (negsuc 1)) (negsuc 0) (cond (leZ (pos 1) w) (pos 1) (pos 0))
+digit2 w = choice-2 w (pos 0)
 
 -- the next partial result is s' = 2 s + q
 abbrev pub Step2 : Type 0
@@ -53,14 +54,14 @@ four-pow (suc j) = rw (pow-suc 4 j, pow-suc 2 j) (omega (arith, four-pow j))
 
 -- what the estimate says of 8 (N - M), where D is 2^K 2^j
 module _ (N M D : ℕ) (w : ℤ) (D-pos : 1 ≤ D) (below : (w *ℤ pos D) ≤ℤ (pos 8 *ℤ (pos N -ℤ pos M))) (near : (pos 8 *ℤ (pos N -ℤ pos M)) <ℤ (w *ℤ pos D +ℤ pos 2 *ℤ pos D)) where
-  when-up : (pos 1) ≤ℤ w → M < N
-  when-up h = omega (arith, ints, mul-le-mul-right D (le-out (pos 1) w h))
+  when-up : up-from ≤ℤ w → M < N
+  when-up h = omega (arith, ints, mul-le-mul-right D (le-out up-from w h))
 
-  when-down : w ≤ℤ (negsuc 1) → N < M
-  when-down h = omega (arith, ints, mul-le-mul-right D (le-out w (negsuc 1) h))
+  when-down : w ≤ℤ down-from → N < M
+  when-down h = omega (arith, ints, mul-le-mul-right D (le-out w down-from h))
 
-  when-still : (negsuc 1) <ℤ w → w <ℤ (pos 1) → (8 * M ≤ 8 * N + D) × (8 * N < 8 * M + 2 * D)
-  when-still h k = omega (arith, ints, mul-le-mul-right D (lt-out (negsuc 1) w h), mul-le-mul-right D (lt-out w (pos 1) k))
+  when-still : down-from <ℤ w → w <ℤ up-from → (8 * M ≤ 8 * N + D) × (8 * N < 8 * M + 2 * D)
+  when-still h k = omega (arith, ints, mul-le-mul-right D (lt-out down-from w h), mul-le-mul-right D (lt-out w up-from k))
 
 -- 2^K 4^j, by powers of 2
 scale : (K j : ℕ) → 2 ^ K * 4 ^ j ≡ 2 ^ K * 2 ^ j * 2 ^ j
@@ -90,7 +91,7 @@ module _ (K j x t : ℕ) (hp : 0 < x) (hP : 2 ^ K ≤ 4 * x) (hx : x < 2 ^ K) (l
 
 pub step2 : Step2
 step2 K j x zero s′ w hp hP hx b e q = absurd (omega (arith, b .one))
-step2 K j x (suc t) s′ w hp hP hx b e q = go (leZ w (negsuc 1)) (leZ (pos 1) w) refl refl q
+step2 K j x (suc t) s′ w hp hP hx b e q = go (leZ w down-from) (leZ up-from w) refl refl q
   where
     D-pos : 1 ≤ 2 ^ K * 2 ^ j
     D-pos = mul-pos (pow-pos K) (pow-pos j)
@@ -104,7 +105,7 @@ step2 K j x (suc t) s′ w hp hP hx b e q = go (leZ w (negsuc 1)) (leZ (pos 1) w
     near : (pos 8 *ℤ rest2 K j x (suc t)) <ℤ (w *ℤ pos (2 ^ K * 2 ^ j) +ℤ pos 2 *ℤ pos (2 ^ K * 2 ^ j))
     near = rw add-*ℤ at (e .near)
 
-    go : (c d : Bool) → leZ w (negsuc 1) ≡ c → leZ (pos 1) w ≡ d → pos s′ ≡ pos (2 * suc t) +ℤ cond c (negsuc 0) (cond d (pos 1) (pos 0)) → Bound2 K (suc j) x s′
+    go : (c d : Bool) → leZ w down-from ≡ c → leZ up-from w ≡ d → pos s′ ≡ pos (2 * suc t) +ℤ cond c (negsuc 0) (cond d (pos 1) (pos 0)) → Bound2 K (suc j) x s′
     go true d p r m = digit-down K j x t hp hP hx low high s′ (omega (arith, ints)) (when-down (2 ^ K * 4 ^ j) (x * (suc t * suc t)) (2 ^ K * 2 ^ j) w D-pos (e .below) near (grind (arith, ints)))
     go false true p r m = digit-up K j x t hp hP hx low high s′ (omega (arith, ints)) (when-up (2 ^ K * 4 ^ j) (x * (suc t * suc t)) (2 ^ K * 2 ^ j) w D-pos (e .below) near (grind (arith, ints)))
     go false false p r m = let h = when-still (2 ^ K * 4 ^ j) (x * (suc t * suc t)) (2 ^ K * 2 ^ j) w D-pos (e .below) near (grind (arith, ints)) (grind (arith, ints)) in digit-zero K j x t hp hP hx low high s′ (omega (arith, ints)) (h .0) (h .1)

@@ -13,7 +13,7 @@ use Rattle.arithmetic.specs.Estimates.{shortfall, Estimates}
 use Rattle.arithmetic.proofs.Ring.{add-*ℤ}
 use Rattle.selection.specs.Operands.{Sized, In-range, Contained}
 use Rattle.selection.specs.Selectors.{Residual, Lawful-selector, Contains, beyond, guarded}
-use Rattle.selection.specs.Radix2.{choice-2, radix-2}
+use Rattle.selection.specs.Radix2.{down-from, up-from, choice-2, radix-2}
 use Rattle.selection.proofs.Range.{plain, above-quarter, whole, split, next-place, Sides, opens, shuts, balanced}
 use Rattle.selection.proofs.Scale.{shrink, grow, estimate-below, estimate-near, natural, moved, rest-is}
 use Rattle.selection.proofs.Guard.{guard-still, guarded-least, guarded-most}
@@ -69,7 +69,7 @@ multiple K Q x zero s sized f g = (1, f refl ∙ (let i : Q - 1 * 0 ≡ 1 + (Q -
 multiple K Q x (suc j) s sized f g = let z : s % 2 ^ (Q - 1 * suc j) ≡ 0 = g (omega arith) in (s / 2 ^ (Q - 1 * suc j), omega (arith, div-add-mod' s (2 ^ (Q - 1 * suc j))))
 
 choice-least : (w p : ℤ) → negℤ (pos 1) ≤ℤ choice-2 w p
-choice-least w p = go (leZ w (negsuc 1)) (leZ (pos 1) w)
+choice-least w p = go (leZ w down-from) (leZ up-from w)
   where
     go : (c d : Bool) → negℤ (pos 1) ≤ℤ cond c (negsuc 0) (cond d (pos 1) (pos 0))
     go true d = omega (arith, ints)
@@ -77,7 +77,7 @@ choice-least w p = go (leZ w (negsuc 1)) (leZ (pos 1) w)
     go false false = omega (arith, ints)
 
 choice-most : (w p : ℤ) → choice-2 w p ≤ℤ pos 1
-choice-most w p = go (leZ w (negsuc 1)) (leZ (pos 1) w)
+choice-most w p = go (leZ w down-from) (leZ up-from w)
   where
     go : (c d : Bool) → cond c (negsuc 0) (cond d (pos 1) (pos 0)) ≤ℤ pos 1
     go true d = omega (arith, ints)

@@ -100,3 +100,22 @@ moved y y′ r p s q e f = ap (λ z. z *ℤ pos p) f ∙ ring (pos y ∷ pos r �
 -- n * w = (M - x * y ^ 2) * e
 pub rest-is : (n e x y M : ℕ) (w : ℤ) → 0 < e → up w * (n * e) + x * (y * e * (y * e)) ≡ M * (e * e) + down w * (n * e) → n * up w + x * (y * y) * e ≡ M * e + n * down w
 rest-is n e x y M w e-pos h = native.Mathlib.Nat.eq-of-mul-eq-mul-right e e-pos (n * up w + x * (y * y) * e) (M * e + n * down w) (omega arith)
+
+-- ---- the product's estimate
+
+module _ (p x s y U H e : ℕ) (e-pos : 0 < e) (unit : 64 * U ≡ H * e) (s-is : s ≡ y * e) where
+  pub product-below : (pos p *ℤ pos U) ≤ℤ pos (x * s) → p * H ≤ 64 * (x * y)
+  product-below h =
+      let k : p * U ≤ x * s = omega (arith, ints, h) in
+      le-of-mul-le-mul-right {k = e} (omega (arith, ap (λ t. p * t) unit, ap (λ t. x * t) s-is)) e-pos
+
+  pub product-near : pos (x * s) <ℤ ((pos p +ℤ pos 2) *ℤ pos U) → 64 * (x * y) < (p + 2) * H
+  product-near h =
+      let k : x * s < (p + 2) * U = omega (arith, ints, h) in
+      lt-of-mul-lt-mul-right e (omega (arith, ap (λ t. (p + 2) * t) unit, ap (λ t. x * t) s-is))
+
+-- where the product is at least a unit of its estimate, the estimate is no negative number
+pub estimate-natural : (P̂ : ℤ) (U n : ℕ) → U ≤ n → pos n <ℤ ((P̂ +ℤ pos 2) *ℤ pos U) → (p : ℕ) × (P̂ ≡ pos p)
+estimate-natural (pos p) U n h l = (p, refl)
+estimate-natural (negsuc zero) U n h l = absurd (omega (arith, ints))
+estimate-natural (negsuc (suc k)) U n h l = absurd (omega (arith, ints, rw add-*ℤ at l))

@@ -6,6 +6,7 @@ ghost use Rattle.selection.specs.Selectors.{Selector-model, Lawful-selector, b
 pub mod operand;
 pub mod operands;
 pub mod radix2;
+pub mod radix4;
 pub mod refusal;
 pub mod start;
 
@@ -52,7 +53,7 @@ pub trait Selector {
         ensures { λ r. ⌜ r ≡ model (now (self .entry)) .start k x ⌝ };
 
     /// Chooses a digit from the estimates of the shifted residual and of the product.
-    fn digit(&self, residual: i64, product: i64) -> i8
+    fn digit(&self, residual: i64, product: i64) -> i64
         ensures { λ r. ⌜ r ≡ model (now (self .entry)) .digit residual product ⌝ };
 }
 

@@ -1,8 +1,10 @@
 ghost use Prim.Native.Nat.{ℕ};
+ghost use mathlib.Core.Path.{_≡_};
+ghost use lib.IntN.{pos};
 ghost use Rattle.arithmetic.specs.Estimates.{shortfall};
 ghost use Rattle.selection.specs.Operands.{Sized, In-range};
 ghost use Rattle.selection.specs.Selectors.{Lawful-selector, Contains};
-ghost use Rattle.selection.specs.Radix2.{radix-2};
+ghost use Rattle.selection.specs.Radix2.{choice-2, radix-2};
 use crate::Selector;
 use crate::is_beyond;
 use crate::start::Start;
@@ -47,15 +49,17 @@ pub impl Selector for Radix2 as Radix2Selector {
         Start::One
     }
 
-    fn digit(&self, residual: i64, product: i64) -> i8 {
+    fn digit(&self, residual: i64, product: i64) -> i64 {
         if is_beyond(residual) || is_beyond(product) {
-            0
-        } else if residual <= -2 {
-            -1
-        } else if residual >= 1 {
-            1
-        } else {
-            0
+            return 0;
         }
+        by_thresholds(residual)
     }
+}
+
+/// Chooses a digit by the two thresholds, without a branch.
+fn by_thresholds(residual: i64) -> i64
+    ensures { λ r. ⌜ r ≡ choice-2 residual (pos 0) ⌝ }
+{
+    i64::from(residual >= 1) - i64::from(residual <= -2)
 }

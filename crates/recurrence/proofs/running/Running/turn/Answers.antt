@@ -8,7 +8,7 @@ use lib.IntN.{ℤ, pos, negℤ}
 use lib.Pow.{pow-add, pow-mono}
 use lib.Signed.{_<ℤ_}
 use mir.Val.{SFits, toZ, ofZ}
-use mir.Syntax.{w8, w64}
+use mir.Syntax.{w64}
 use Rattle.std.proofs.shelf.Signed.{ints, toZ-ofZ}
 use Rattle.std.proofs.shelf.Ways.{tells}
 use Rattle.recurrence.specs.declared.registers.Partial.{Partial}
@@ -46,7 +46,7 @@ ghost-self g c =
     let r = c .radix-of-radix .result in
     let b = c .digit-bits-bits .result in
     let p = before .place - b in
-    let q : ℤ = toZ w8 (ofZ w8 (c .pick-choice .result .digit)) in
+    let q : ℤ = toZ w64 (ofZ w64 (c .pick-choice .result .digit)) in
     let rad : r ≡ 2 ^ S .bits = c .radix-of-radix .ensures .is ∙ ap (λ k. 2 ^ k) (c .digit-bits-bits .ensures) in
     let least = c .pick-choice .ensures .least in
     let most = c .pick-choice .ensures .most in
@@ -88,17 +88,13 @@ returns g c =
     let most = c .pick-choice .ensures .most in
     let room : S .bits ≤ before .place = omega (arith, c .if-before-bits .left, c .digit-bits-bits .ensures) in
     let more : complete S before ≡ false = not-less (before .place) (S .bits) room in
-    let digit : toZ w8 (ofZ w8 (c .pick-choice .result .digit)) ≡ c .pick-choice .result .digit = omega (arith, ints) in
-    let from : c .from .result ≡ c .pick-choice .result .digit = search needs in
-    let wide : toZ w64 (ofZ w64 (c .from .result)) ≡ c .from .result = omega (arith, ints) in
+    let digit : toZ w64 (ofZ w64 (c .pick-choice .result .digit)) ≡ c .pick-choice .result .digit = omega (arith, ints) in
     let term : toZ w64 (ofZ w64 (c .at-place .result)) ≡ c .at-place .result = omega (arith, ints) in
-    let multiple : SFits w64 (y .multiple) = search needs in
-    let square : SFits w64 (y .square) = search needs in
     let once : SFits w64 (y .once) = search needs in
     let shifted : c .shift-shifted .result ≡ F .shift (c .digit-bits-bits .result) (before .residual) = c .shift-shifted .ensures ∙ ap (λ k. F .shift k (before .residual)) (c .shift-by .ensures) in
     record {
       tells = chosen-if S F before (c .digit-bits-bits .ensures) shifted (c .pick-choice .ensures .is) more;
-      after = assembled S F before from wide digit term (toZ-ofZ w64 (y .multiple) multiple) (toZ-ofZ w64 (y .square) square) (toZ-ofZ w64 (y .once) once)
-          (c .digit-bits-bits .ensures) (c .radix-of-radix .ensures .is) (c .from-2 .ensures) shifted (c .pick-choice .ensures .is)
-          (c .at-place .ensures .is) (c .of-terms .ensures) (c .add-multiple-less-multiple .ensures) (c .add-residual .ensures) (c .add-product .ensures) (c .append-partial .ensures) more;
+      after = assembled S F before digit term (toZ-ofZ w64 (y .once) once)
+          (c .digit-bits-bits .ensures) (c .radix-of-radix .ensures .is) (c .from .ensures) shifted (c .pick-choice .ensures .is)
+          (c .at-place .ensures .is) (c .of-terms .ensures) (c .reduce-residual .ensures) (c .add-product .ensures) (c .append-partial .ensures) more;
     }
