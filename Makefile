@@ -1,12 +1,13 @@
 # make run      works one job off and prints every digit (ARGS="radix4 carry-save 10 8 537" chooses another)
 # make test     proves every crate, tries the edits that must fail, runs the programs, the tests and the C example
 # make example  builds and runs the C example
+# make verify-singles  compares the singles with MPFR on very many words (wants libmpfr-dev)
 # make bench    measures the exported function beside a plain C model
 
 ARGS ?=
 KIT = $(shell dirname $$(dirname $$(rt doc)))
 
-.PHONY: run test example bench
+.PHONY: run test example bench verify-singles
 
 run:
 	@mkdir -p target
@@ -28,3 +29,6 @@ example:
 
 bench:
 	bench/run
+
+verify-singles:
+	tests/singles/run

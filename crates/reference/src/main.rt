@@ -2,25 +2,23 @@
 mod makes;
 
 use makes::six;
+use makes::six_singles;
 use number_form::plain::Plain;
 use number_form::plain::PlainForm;
 use recurrence::job::Job;
-use reference_rows::fixed_rows;
+use reference_rows::Rows;
+use reference_rows::reference_rows;
 use selection::Selector;
 use selection::operand::Operand;
 use selection::radix2::Radix2;
 use selection::radix2::Radix2Selector;
 use selection::radix4::Radix4;
 use selection::radix4::Radix4Selector;
+use single::mode::Mode;
 use std::io;
 
 fn main(rt: LibcRuntime) -> io::Result<()> {
-    println!(rt, "The established rows, K = 4, Q = 4, by all six makes")?;
-    for row in fixed_rows() {
-        let expected = row.f;
-        print!(rt, "expected {expected:2}: ")?;
-        run(&rt, 4, 4, row.x)?;
-    }
+    established(&rt)?;
     println!(rt, "Refusals and sizes")?;
     for job in SIZES {
         run(&rt, job.0, job.1, job.2)?;
@@ -34,7 +32,35 @@ fn main(rt: LibcRuntime) -> io::Result<()> {
     for job in FURTHER {
         run(&rt, job.0, job.1, job.2)?;
     }
-    every_small_operand(&rt)
+    every_small_operand(&rt)?;
+    println!(
+        rt,
+        "Singles by all six makes: nearest, toward zero, up, down, and the marks"
+    )?;
+    for word in SINGLES {
+        run_single(&rt, word)?;
+    }
+    Ok(())
+}
+
+/// Runs the established rows.
+fn established(rt: &LibcRuntime) -> io::Result<()> {
+    let Rows { fixed, singles } = reference_rows();
+    println!(rt, "The established rows, K = 4, Q = 4, by all six makes")?;
+    for row in fixed {
+        let expected = row.f;
+        print!(rt, "expected {expected:2}: ")?;
+        run(rt, 4, 4, row.x)?;
+    }
+    println!(rt, "The established singles by all six makes")?;
+    for row in singles {
+        let operand = row.operand;
+        let expected = row.result;
+        print!(rt, "{operand:08x} expected {expected:08x}: ")?;
+        print_single(rt, operand, row.mode)?;
+        println!(rt)?;
+    }
+    Ok(())
 }
 
 /// Operands at the limits of K, Q and x.
@@ -67,6 +93,50 @@ const FURTHER: [(u32, u32, u32); 16] = [
     (16, 16, 24576),
     (20, 22, 786431),
     (27, 14, 123456789),
+];
+
+/// Special words, both ends of the exponent range, both parities and neighbours of powers of four.
+const SINGLES: [u32; 40] = [
+    0x0000_0000,
+    0x8000_0000,
+    0x0000_0001,
+    0x8000_0001,
+    0x007f_ffff,
+    0x807f_ffff,
+    0x7f80_0000,
+    0xff80_0000,
+    0x7fc0_0000,
+    0x7fff_ffff,
+    0x7f80_0001,
+    0x7fbf_ffff,
+    0xffc0_0001,
+    0xff80_0001,
+    0xbf80_0000,
+    0x8080_0000,
+    0xff7f_ffff,
+    0x0080_0000,
+    0x0080_0001,
+    0x00ff_ffff,
+    0x0100_0000,
+    0x0100_0001,
+    0x017f_ffff,
+    0x7e80_0000,
+    0x7eff_ffff,
+    0x7f00_0000,
+    0x7f00_0001,
+    0x7f7f_ffff,
+    0x3e80_0000,
+    0x3e80_0001,
+    0x3eff_ffff,
+    0x3f00_0000,
+    0x3f7f_ffff,
+    0x3f80_0000,
+    0x3f80_0001,
+    0x3fff_ffff,
+    0x4000_0000,
+    0x4040_0000,
+    0x4049_0fdb,
+    0x4120_0000,
 ];
 
 /// Runs a job on all makes and prints what they come to.
@@ -128,4 +198,26 @@ fn every_small_operand(rt: &LibcRuntime) -> io::Result<()> {
         rt,
         "Every operand with K up to 10 and Q up to 8: {jobs} jobs, {differences} on which the makes differ"
     )
+}
+
+/// Runs a single in all modes on all makes.
+fn run_single(rt: &LibcRuntime, word: u32) -> io::Result<()> {
+    print!(rt, "{word:08x}:")?;
+    for mode in [Mode::Nearest, Mode::TowardZero, Mode::Up, Mode::Down] {
+        print!(rt, " ")?;
+        print_single(rt, word, mode)?;
+    }
+    println!(rt)
+}
+
+/// Prints what a single comes to on all makes, with the number of its marks.
+fn print_single(rt: &LibcRuntime, word: u32, mode: Mode) -> io::Result<()> {
+    match six_singles(word, mode) {
+        None => print!(rt, "the makes differ"),
+        Some(answer) => {
+            let result = answer.word;
+            let marks = answer.marks.number();
+            print!(rt, "{result:08x}/{marks}")
+        }
+    }
 }

@@ -13,12 +13,24 @@ use selection::Selector;
 use selection::operand::Operand;
 use std::io;
 
-/// Prints a job from its operand to its result.
+/// Prints a fixed-point job from its operand to its result.
 pub(crate) fn print<S: Selector, F: NumberForm>(
     rt: &LibcRuntime,
     selector: &S,
     form: &F,
     operand: Operand,
+) -> io::Result<()> {
+    let mut job = Job::begin(selector, form, operand);
+    print_job(rt, selector, form, operand, &mut job)
+}
+
+/// Prints a job that has begun, digit by digit, and leaves it finished.
+pub(crate) fn print_job<S: Selector, F: NumberForm>(
+    rt: &LibcRuntime,
+    selector: &S,
+    form: &F,
+    operand: Operand,
+    job: &mut Job,
 ) -> io::Result<()> {
     let Operand { k, q, x } = operand;
     let fraction = Decimal { n: x, places: k };
@@ -26,7 +38,6 @@ pub(crate) fn print<S: Selector, F: NumberForm>(
         rt,
         "X = {x} / 2^{k} = {fraction}, its reciprocal root to {q} places"
     )?;
-    let mut job = Job::begin(selector, form, operand);
     match job.registers() {
         None => println!(rt, "X is 1/4: settled, with no digits")?,
         Some(registers) => {

@@ -1,0 +1,5 @@
+pub mod Modes
+pub mod MarkSets
+pub mod Words
+pub mod Rsqrt
+pub mod Readings
