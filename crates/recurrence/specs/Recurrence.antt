@@ -157,6 +157,11 @@ abbrev pub registers : State → Option Registers
 registers (settled o) = None
 registers (running c) = Some c
 
+-- the partial result; a settled job's is its result
+abbrev pub partial-result : State → ℕ
+partial-result (settled o) = o .f
+partial-result (running c) = c .partial .s
+
 -- what a job comes to, once no digit is left
 abbrev pub outcome : Selector-model → Form-model → State → Option Outcome
 outcome S F (settled o) = Some o

@@ -5,7 +5,7 @@ ghost use Rattle.arithmetic.specs.Estimates.{shortfall};
 ghost use Rattle.selection.specs.Operands.{quarter};
 ghost use Rattle.recurrence.specs.Root.{Reciprocal-root, Exactness};
 ghost use Rattle.recurrence.specs.Stages.{Kept};
-ghost use Rattle.recurrence.specs.Recurrence.{seen, begun, job-turned, turn-told, made, left, registers, outcome, worked, quarter-outcome};
+ghost use Rattle.recurrence.specs.Recurrence.{seen, begun, job-turned, turn-told, made, left, registers, partial-result, outcome, worked, quarter-outcome};
 use crate::job::Job;
 use crate::registers::Choice;
 use crate::registers::Outcome;
@@ -95,6 +95,16 @@ impl Job {
         match self {
             Job::Settled(_) => None,
             Job::Running(running) => Some(running.registers),
+        }
+    }
+
+    /// Gives the partial result S times 2^Q; a settled job's is its result.
+    pub fn partial_result(&self) -> u32
+        ensures { λ r. ⌜ r ≡ partial-result (seen (now (self .entry))) ⌝ }
+    {
+        match self {
+            Job::Settled(outcome) => outcome.f,
+            Job::Running(running) => running.registers.partial.s,
         }
     }
 

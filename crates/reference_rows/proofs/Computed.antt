@@ -16,10 +16,10 @@ use Rattle.reference_rows.specs.declared.SingleRow.{SingleRow}
 use Rattle.reference_rows.specs.References.{row-answer, Single-right, Established}
 
 -- what comes out is right
-single-right : (r : SingleRow) → r .operand < 2 ^ 32 → told radix-2 plain (r .mode) (reading (r .operand)) ≡ row-answer r → told radix-4 plain (r .mode) (reading (r .operand)) ≡ row-answer r → Single-right r
-single-right r h two four =
+single-right : (r : SingleRow) → told radix-2 plain (r .mode) (reading (r .operand)) ≡ row-answer r → told radix-4 plain (r .mode) (reading (r .operand)) ≡ row-answer r → Single-right r
+single-right r two four =
     record {
-      root = subst (λ (a : Answer). Rsqrt (r .mode) (r .operand) (a .word) (a .marks)) two (told-right radix-2 plain radix-2-lawful (more-units {m = 1} {n = 2} (lit≤ tt) plain-lawful) (r .mode) (r .operand) h);
+      root = subst (λ (a : Answer). Rsqrt (r .mode) (r .operand) (a .word) (a .marks)) two (told-right radix-2 plain radix-2-lawful (more-units {m = 1} {n = 2} (lit≤ tt) plain-lawful) (r .mode) (r .operand));
       by-radix-2 = two;
       by-radix-4 = four;
     }
@@ -41,8 +41,8 @@ established =
         ),
       );
       singles-right = (
-        single-right _ (lit< tt) refl refl,
-        (single-right _ (lit< tt) refl refl, (single-right _ (lit< tt) refl refl, (single-right _ (lit< tt) refl refl, (single-right _ (lit< tt) refl refl, tt)))),
+        single-right _ refl refl,
+        (single-right _ refl refl, (single-right _ refl refl, (single-right _ refl refl, (single-right _ refl refl, tt)))),
       );
       radix-2-digits = refl;
       radix-2-ends = refl;

@@ -54,10 +54,10 @@ module _ (mode : Mode) (v : ℕ) (z : reads-as-zero v ≡ false) (h : v < infini
 
 -- ---- every word
 
-finite : (v : ℕ) → v < 2 ^ 32 → is-nan v ≡ false → eqb v infinity ≡ false → is-negative v ≡ false → v < infinity
-finite v h n i p = grind (arith, tells)
+finite : (v : ℕ) → is-nan v ≡ false → eqb v infinity ≡ false → is-negative v ≡ false → v < infinity
+finite v n i p = grind (arith, tells)
 
-module _ (S : Selector-model) (F : Form-model) (LS : Lawful-selector shortfall S) (LF : Lawful-form shortfall F) (mode : Mode) (v : ℕ) (h : v < 2 ^ 32) where
+module _ (S : Selector-model) (F : Form-model) (LS : Lawful-selector shortfall S) (LF : Lawful-form shortfall F) (mode : Mode) (v : ℕ) where
   pub told-right : Right mode v (told S F mode (reading v))
   told-right = pick (is-nan v) (reads-as-zero v) (eqb v infinity) (is-negative v) (leb (2 ^ 22) (fraction v)) refl refl refl refl refl
     where
@@ -72,4 +72,4 @@ module _ (S : Selector-model) (F : Form-model) (LS : Lawful-selector shortfall S
       pick false true i false q n-is z-is i-is p-is q-is = plus-zero z-is p-is
       pick false false true p q n-is z-is i-is p-is q-is = subst (λ (w : ℕ). Rsqrt mode w 0 (special-answer PlusInfinity .marks)) (sym (eqb-true v infinity i-is)) plus-infinity
       pick false false false true q n-is z-is i-is p-is q-is = negative n-is z-is p-is
-      pick false false false false q n-is z-is i-is p-is q-is = positive-right mode v z-is (finite v h n-is i-is p-is) S F LS LF
+      pick false false false false q n-is z-is i-is p-is q-is = positive-right mode v z-is (finite v n-is i-is p-is) S F LS LF

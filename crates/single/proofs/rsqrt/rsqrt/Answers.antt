@@ -1,6 +1,5 @@
-use Prim.Native.Nat.{ℕ, _^_, _<_}
+use Prim.Native.Nat.{ℕ}
 use mathlib.Core.Path.{_≡_, sym, subst}
-use native.Mathlib.Omega.{arith}
 use Rattle.arithmetic.specs.Estimates.{shortfall}
 use Rattle.number_form.specs.Forms.{Form-model, Lawful-form}
 use Rattle.selection.specs.Selectors.{Selector-model, Lawful-selector}
@@ -13,15 +12,15 @@ use Rattle.single.proofs.Determined.{rsqrt-once}
 use Rattle.single.proofs.Correct.{told-right}
 use Rattle.single.proofs.rsqrt.rsqrt.Needs as need
 
-right : (S : Selector-model) (F : Form-model) → Lawful-selector shortfall S → Lawful-form shortfall F → (mode : Mode) (v : ℕ) (r : Answer) → v < 2 ^ 32 → r ≡ told S F mode (reading v) → Rsqrt mode v (r .word) (r .marks)
-right S F LS LF mode v r h e = subst (λ (a : Answer). Rsqrt mode v (a .word) (a .marks)) (sym e) (told-right S F LS LF mode v h)
+right : (S : Selector-model) (F : Form-model) → Lawful-selector shortfall S → Lawful-form shortfall F → (mode : Mode) (v : ℕ) (r : Answer) → r ≡ told S F mode (reading v) → Rsqrt mode v (r .word) (r .marks)
+right S F LS LF mode v r e = subst (λ (a : Answer). Rsqrt mode v (a .word) (a .marks)) (sym e) (told-right S F LS LF mode v)
 
 pub returns : need.returns
 returns g c =
     let S = g .S·Selector .model (c .args .selector .now) in
     let F = g .F·NumberForm .model (c .args .form .now) in
     let r = c .answer-by-digits .result in
-    let it = right S F (c .lawful .ensures) (c .lawful-2 .ensures) (c .args .mode) (c .args .word) r (omega arith) (c .answer-by-digits .ensures) in
+    let it = right S F (c .lawful .ensures) (c .lawful-2 .ensures) (c .args .mode) (c .args .word) r (c .answer-by-digits .ensures) in
     record {
       digits = c .answer-by-digits .ensures;
       right = it;

@@ -1,0 +1,6 @@
+pub mod Views
+pub mod Separate
+pub mod Course
+pub mod Working
+pub mod Standing
+pub mod Share
