@@ -4,3 +4,7 @@ pub mod Course
 pub mod Working
 pub mod Standing
 pub mod Share
+pub mod Seeing
+pub mod Asking
+pub mod Playing
+pub mod Refusing

@@ -5,3 +5,6 @@ pub mod Jobs
 pub mod Bank
 pub mod Seen
 pub mod Promise
+pub mod Plays
+pub mod Controls
+pub mod Holds

@@ -17,7 +17,7 @@ use Rattle.bank.specs.declared.call.Call.the-variants.{Tick, Take, Ask}
 use Rattle.bank.specs.declared.call.Reply.{Reply}
 use Rattle.bank.specs.declared.call.Reply.the-variants.{Stepped, Shown, Told}
 use Rattle.bank.specs.Operands.{Make, Lawful, Operand, width, places, number, settled, digits, partial-result, Right}
-use Rattle.bank.specs.History.{same, Event, History, begins, Taken, In-force, Loaded}
+use Rattle.bank.specs.History.{same, accepted, Event, History, begins, Taken, In-force, Loaded}
 use Rattle.bank.specs.Bank.{Bank, new, answer, after}
 
 -- ---- what happened to a bank
@@ -65,6 +65,12 @@ calls es = map (λ (e : Event). e .call) es
 
 abbrev pub answers : History → List Reply
 answers es = map (λ (e : Event). e .reply) es
+
+-- ---- refusals
+
+-- A refused call leaves a bank as it was, whatever its state.
+abbrev pub Refusals-leave : Type 0
+Refusals-leave = (m : Make) (b : Bank) (c : Call) → accepted (answer m b c) ≡ false → after m b c ≡ b
 
 -- ---- the promise
 

@@ -39,3 +39,10 @@ pub enum Reply {
     Shown { made: u32, s: u32 },
     Told(Answer),
 }
+
+/// A call of a list, with its answer once the list is played.
+#[derive(Clone, Copy, Drop)]
+pub struct Play {
+    pub call: Call,
+    pub reply: Option<Reply>,
+}

@@ -1,10 +1,12 @@
 ghost use mathlib.Core.Path.{_≡_};
-ghost use Prim.Native.Nat.{_<_};
+ghost use Prim.Native.Nat.{ℕ, _<_};
+ghost use Rattle.std.specs.declared.option.Option.the-variants.{Some};
 ghost use Rattle.bank.specs.declared.call.Call.the-variants.{Tick, Take};
 ghost use Rattle.bank.specs.Operands.{Make};
-ghost use Rattle.bank.specs.Bank.{new, answer, after};
-ghost use Rattle.bank.specs.Seen.{seen, lane-of, in-force, put, ticked, took};
+ghost use Rattle.bank.specs.Bank.{new, answer, after, expires};
+ghost use Rattle.bank.specs.Seen.{seen, lane-of, in-force, Below-eight, put, done, took, lane-at};
 use crate::call::Name;
+use crate::lane_job::LaneJob;
 use crate::lanes::Holder;
 use crate::lanes::Lane;
 use crate::lanes::Lanes;
@@ -22,9 +24,23 @@ impl Lanes {
         }
     }
 
+    /// Sets the clock, and frees every lane whose deadline it reaches.
+    pub(crate) fn tick(&mut self, time: u32) -> Result<(), Refusal>
+        ensures answers { λ r. ⌜ ((m : Make) → done r ≡ answer m (seen (now (self .entry))) (Tick time)) ⌝ }
+        ensures leaves { λ _. ⌜ ((m : Make) → seen (now (self .exit)) ≡ after m (seen (now (self .entry))) (Tick time)) ⌝ }
+    {
+        if time < self.clock {
+            return Err(Refusal::BelowClock);
+        }
+        self.clock = time;
+        self.lanes = expired(self.lanes, time);
+        Ok(())
+    }
+
     /// Finds the holder of a hold that is in force.
     pub(crate) fn in_force(&self, name: Name) -> Result<Holder, Refusal>
-        ensures { λ r. ⌜ r ≡ in-force (now (self .entry)) name ⌝ }
+        ensures is { λ r. ⌜ r ≡ in-force (now (self .entry)) name ⌝ }
+        ensures lane { λ r. ⌜ Below-eight (name .lane) r ⌝ }
     {
         if name.lane > 7 {
             return Err(Refusal::NotInForce);
@@ -76,5 +92,41 @@ impl Lanes {
         };
         self.put(lane, Some(holder));
         Ok(serial)
+    }
+}
+
+/// Gives the lanes without the holders whose deadline the time reaches.
+fn expired(lanes: [Lane; 8], time: u32) -> [Lane; 8]
+    ensures { λ r. ⌜ ((i : ℕ) → lane-at r i ≡ expires time (lane-at lanes i)) ⌝ }
+{
+    let mut left = lanes;
+    for i in 0..8 {
+        left[i] = left[i].at_time(time);
+    }
+    left
+}
+
+impl Lane {
+    /// Gives the lane as it stands at a time: free from the deadline on.
+    fn at_time(self, time: u32) -> Lane
+        ensures { λ r. ⌜ lane-of (r .holder) ≡ expires time (lane-of (self .holder)) ⌝ }
+    {
+        match self.holder {
+            Some(holder) if holder.deadline <= time => Lane { holder: None },
+            _ => self,
+        }
+    }
+}
+
+impl Holder {
+    /// Gives the holder with a job.
+    pub(crate) fn with_job(self, job: LaneJob) -> Holder
+        ensures { λ r. ⌜ r ≡ record { serial = self .serial; deadline = self .deadline; job = Some job } ⌝ }
+    {
+        Holder {
+            serial: self.serial,
+            deadline: self.deadline,
+            job: Some(job),
+        }
     }
 }
