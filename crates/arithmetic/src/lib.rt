@@ -1,4 +1,6 @@
 // Whole numbers modulo 2^64, and the lemmas that the other crates share: estimates, squares, powers, a solver for ring identities.
+#![tactic(auto)]
+
 ghost use Rattle.std.specs.Prelude.{◌≡◌, pos, ◌-ℤ◌, ◌*ℤ◌};
 ghost use Rattle.arithmetic.specs.Residues.{word, signed};
 

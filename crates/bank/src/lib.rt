@@ -1,4 +1,6 @@
 // The bank: eight lanes, each let to one holder at a time.
+#![tactic(auto)]
+
 pub mod bank;
 mod calls;
 mod making;

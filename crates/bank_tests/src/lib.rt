@@ -1,4 +1,6 @@
 // Tests of banks, holds, controls and spans, as a caller uses them.
+#![tactic(auto)]
+
 #[cfg(test)]
 mod late_give;
 #[cfg(test)]

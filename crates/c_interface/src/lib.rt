@@ -1,4 +1,6 @@
 // The function that simulators in C call.
+#![tactic(auto)]
+
 ghost use Rattle.std.specs.Prelude.{◌≡◌, ◌%◌, ◌^◌, ◌≤◌, None, Ok};
 ghost use Rattle.selection.specs.Operands.{refusal};
 ghost use Rattle.recurrence.specs.Root.{ReciprocalRoot};

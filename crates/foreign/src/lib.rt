@@ -1,4 +1,6 @@
 // A form and a selector from outside the twin: they prove the same laws, and work through the same public function.
+#![tactic(auto)]
+
 pub mod dual_rail;
 pub mod middle_start;
 

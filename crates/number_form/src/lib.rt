@@ -1,4 +1,6 @@
 // Number forms: a number kept in two 64-bit words.
+#![tactic(auto)]
+
 ghost use Rattle.std.specs.Prelude.{◌≡◌};
 ghost use Rattle.arithmetic.specs.Estimates.{shortfall};
 ghost use Rattle.number_form.specs.Forms.{FormModel, LawfulForm};

@@ -1,4 +1,6 @@
 // The records of a vector stream, and a reader that hands them out.
+#![tactic(auto)]
+
 mod body;
 pub mod defect;
 pub mod fault;

@@ -1,4 +1,6 @@
 // The recurrence: fixed-point jobs, worked off a digit at a time by one generic turn.
+#![tactic(auto)]
+
 pub mod digit;
 pub mod first;
 pub mod job;

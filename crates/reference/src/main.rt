@@ -1,4 +1,6 @@
 // reference: runs the reference jobs, and compares all makes on every small operand.
+#![tactic(auto)]
+
 mod makes;
 mod story;
 

@@ -1,4 +1,6 @@
 // Reference jobs: a short table of operands with their results, established of the written definitions.
+#![tactic(auto)]
+
 ghost use Rattle.std.specs.Prelude.{◌≡◌};
 ghost use Rattle.reference_rows.specs.References.{reference_rows, Established};
 

@@ -1,4 +1,6 @@
 // Selection: operands, the containment bound, and selectors, which choose each digit from a few leading bits.
+#![tactic(auto)]
+
 ghost use Rattle.std.specs.Prelude.{◌≡◌};
 ghost use Rattle.arithmetic.specs.Estimates.{shortfall};
 ghost use Rattle.selection.specs.Selectors.{SelectorModel, LawfulSelector, beyond};

@@ -1,4 +1,6 @@
 // Singles: IEEE 754's reciprocal square root, worked by the recurrence and correctly rounded.
+#![tactic(auto)]
+
 pub mod answer;
 pub mod decode;
 pub mod decoded;

@@ -1,4 +1,6 @@
 // Singles for C: a function made for comparing the twin with another implementation on very many words.
+#![tactic(auto)]
+
 ghost use Rattle.std.specs.Prelude.{◌≡◌, Ok};
 ghost use Rattle.single_export.specs.Answers.{answer, told, RightTold};
 

@@ -1,4 +1,6 @@
 // trace: works one job off and tells a person what it did, digit by digit.
+#![tactic(auto)]
+
 mod number;
 mod request;
 mod single_table;

@@ -1,4 +1,6 @@
 // twin: runs a vector stream from standard input on a new bank, and writes the answers.
+#![tactic(auto)]
+
 use bank::bank::Bank;
 use control::control::Control;
 use number_form::plain::Plain;
