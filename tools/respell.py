@@ -43,7 +43,7 @@ def respelt(name):
 
 
 def files(kinds):
-    for p in subprocess.run(["git", "ls-files", "crates"], capture_output=True, text=True, check=True).stdout.splitlines():
+    for p in subprocess.run(["git", "ls-files", "-co", "--exclude-standard", "crates"], capture_output=True, text=True, check=True).stdout.splitlines():
         if p.endswith(kinds) and os.path.isfile(p):
             yield p
 

@@ -15,8 +15,8 @@ pub(crate) fn at_place(factor: u64, place: u32) -> i64
 impl Terms {
     /// Works out what a digit adds.
     pub(crate) fn of(digit: i64, term: i64) -> Terms
-        requires pos_bound { (neg_ℤ (pos 4) <ℤ digit) × (digit <ℤ pos 4) }
-        requires pos_bound_2 { (pos 0 ≤ℤ term) × (term ≤ℤ pos (2 ^ 56)) }
+        requires digit_fits { (neg_ℤ (pos 4) <ℤ digit) × (digit <ℤ pos 4) }
+        requires term_fits { (pos 0 ≤ℤ term) × (term ≤ℤ pos (2 ^ 56)) }
         ensures { result ≡ terms digit term }
     {
         let once = digit * term;
@@ -31,9 +31,9 @@ impl Terms {
 impl Partial {
     /// Appends a digit at its place.
     pub(crate) fn append(self, radix: u32, digit: i64, place: u32) -> Partial
-        requires le_radix { (2 ≤ radix) × ((radix ≤ 4) × (place ≤ 28)) }
-        requires radix_bound { (neg_ℤ (pos radix) <ℤ digit) × (digit <ℤ pos radix) }
-        requires s_bound { (self.s ≤ 2 ^ 30) × (self.below ≤ 2 ^ 30) }
+        requires sizes { (2 ≤ radix) × ((radix ≤ 4) × (place ≤ 28)) }
+        requires digit_fits { (neg_ℤ (pos radix) <ℤ digit) × (digit <ℤ pos radix) }
+        requires partial_fits { (self.s ≤ 2 ^ 30) × (self.below ≤ 2 ^ 30) }
         ensures { result ≡ appended radix digit place self }
     {
         let radix = i64::from(radix);
@@ -45,9 +45,9 @@ impl Partial {
 
     /// Gives the next S.
     fn next_s(self, radix: i64, digit: i64, place: u32) -> u32
-        requires radix_bound { (radix ≤ℤ pos 4) × (place ≤ 28) }
-        requires radix_bound_2 { (neg_ℤ radix <ℤ digit) × (digit <ℤ radix) }
-        requires s_bound { (self.s ≤ 2 ^ 30) × (self.below ≤ 2 ^ 30) }
+        requires sizes { (radix ≤ℤ pos 4) × (place ≤ 28) }
+        requires digit_fits { (neg_ℤ radix <ℤ digit) × (digit <ℤ radix) }
+        requires partial_fits { (self.s ≤ 2 ^ 30) × (self.below ≤ 2 ^ 30) }
         ensures { result ≡ next_s radix digit place self }
     {
         if digit >= 0 {
@@ -59,9 +59,9 @@ impl Partial {
 
     /// Gives the next S less one unit of the last place.
     fn next_below(self, radix: i64, digit: i64, place: u32) -> u32
-        requires radix_bound { (radix ≤ℤ pos 4) × (place ≤ 28) }
-        requires radix_bound_2 { (neg_ℤ radix <ℤ digit) × (digit <ℤ radix) }
-        requires s_bound { (self.s ≤ 2 ^ 30) × (self.below ≤ 2 ^ 30) }
+        requires sizes { (radix ≤ℤ pos 4) × (place ≤ 28) }
+        requires digit_fits { (neg_ℤ radix <ℤ digit) × (digit <ℤ radix) }
+        requires partial_fits { (self.s ≤ 2 ^ 30) × (self.below ≤ 2 ^ 30) }
         ensures { result ≡ next_below radix digit place self }
     {
         if digit > 0 {

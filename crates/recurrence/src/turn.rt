@@ -19,8 +19,8 @@ impl Running {
         selector: &S,
         form: &F,
     ) -> Option<Choice>
-        ensures* tells { λ r. ⌜ r ≡ (if complete (S.Selector.model selector.now) self.old.registers then None else Some (chosen (S.Selector.model selector.now) (F.NumberForm.model form.now) self.old.registers)) ⌝ }
-        ensures* after { λ _. ⌜ self.new.registers ≡ turned (S.Selector.model selector.now) (F.NumberForm.model form.now) self.old.registers ⌝ }
+        ensures tells { result ≡ (if complete (S.Selector.model selector.now) self.old.registers then None else Some (chosen (S.Selector.model selector.now) (F.NumberForm.model form.now) self.old.registers)) }
+        ensures after { self.new.registers ≡ turned (S.Selector.model selector.now) (F.NumberForm.model form.now) self.old.registers }
     {
         selector.lawful();
         let bits = selector.digit_bits();
@@ -50,8 +50,8 @@ impl Running {
 
     /// Counts the digits made.
     pub(crate) fn made<S: Selector>(&self, selector: &S) -> u32
-        ensures* is { λ r. ⌜ r ≡ (self.now.registers.q - self.now.registers.place) / (S.Selector.model selector.now).bits ⌝ }
-        ensures* few { λ r. ⌜ r ≤ 28 ⌝ }
+        ensures is { result ≡ (self.now.registers.q - self.now.registers.place) / (S.Selector.model selector.now).bits }
+        ensures few { result ≤ 28 }
     {
         selector.lawful();
         (self.registers.q - self.registers.place) / selector.digit_bits()
@@ -59,7 +59,7 @@ impl Running {
 
     /// Counts the digits left to make.
     pub(crate) fn left<S: Selector>(&self, selector: &S) -> u32
-        ensures* { λ r. ⌜ r ≡ self.now.registers.place / (S.Selector.model selector.now).bits ⌝ }
+        ensures { result ≡ self.now.registers.place / (S.Selector.model selector.now).bits }
     {
         selector.lawful();
         self.registers.place / selector.digit_bits()
@@ -67,7 +67,7 @@ impl Running {
 
     /// Reads the result off the registers: s, or s - 1 where the residual is negative.
     pub(crate) fn result<F: NumberForm>(&self, form: &F) -> Outcome
-        ensures* { λ r. ⌜ r ≡ result_of (F.NumberForm.model form.now) self.now.registers ⌝ }
+        ensures { result ≡ result_of (F.NumberForm.model form.now) self.now.registers }
     {
         let s = self.registers.partial.s;
         let f = match form.sign(self.registers.residual) {
@@ -87,9 +87,9 @@ pub(crate) fn pick<S: Selector, F: NumberForm>(
     product: Words,
 ) -> Choice
     requires { (6 ≤ scale) × (scale ≤ 60) }
-    ensures* is { λ r. ⌜ r ≡ chosen_from (S.Selector.model selector.now) (F.NumberForm.model form.now) scale shifted product ⌝ }
-    ensures* least { λ r. ⌜ neg_ℤ (pos (2 ^ (S.Selector.model selector.now).bits)) <ℤ r.digit ⌝ }
-    ensures* most { λ r. ⌜ r.digit <ℤ pos (2 ^ (S.Selector.model selector.now).bits) ⌝ }
+    ensures is { result ≡ chosen_from (S.Selector.model selector.now) (F.NumberForm.model form.now) scale shifted product }
+    ensures least { neg_ℤ (pos (2 ^ (S.Selector.model selector.now).bits)) <ℤ result.digit }
+    ensures most { result.digit <ℤ pos (2 ^ (S.Selector.model selector.now).bits) }
 {
     selector.lawful();
     let at_residual = Cut {
@@ -110,7 +110,7 @@ pub(crate) fn pick<S: Selector, F: NumberForm>(
 
 /// Adds to the shifted residual what a digit adds: first the multiple of the product, then the operand term.
 fn reduce<F: NumberForm>(form: &F, terms: Terms, product: Words, shifted: Words) -> Words
-    ensures* { λ r. ⌜ r ≡ reduced_by (F.NumberForm.model form.now) terms product shifted ⌝ }
+    ensures { result ≡ reduced_by (F.NumberForm.model form.now) terms product shifted }
 {
     let less_multiple = form.add_multiple(shifted, terms.multiple, product);
     form.add(less_multiple, terms.square)
@@ -119,7 +119,7 @@ fn reduce<F: NumberForm>(form: &F, terms: Terms, product: Words, shifted: Words)
 /// Gives the shift by a digit's bits.
 fn shift_by(bits: u32) -> Shift
     requires { (bits ≡ 1) ⊎ (bits ≡ 2) }
-    ensures* { λ r. ⌜ places r ≡ bits ⌝ }
+    ensures { places result ≡ bits }
 {
     if bits == 1 { Shift::One } else { Shift::Two }
 }
@@ -127,9 +127,9 @@ fn shift_by(bits: u32) -> Shift
 /// Gives the radix of digits of one or two bits.
 fn radix_of(bits: u32) -> u32
     requires { (bits ≡ 1) ⊎ (bits ≡ 2) }
-    ensures* is { λ r. ⌜ r ≡ 2 ^ bits ⌝ }
-    ensures* least { λ r. ⌜ 2 ≤ r ⌝ }
-    ensures* most { λ r. ⌜ r ≤ 4 ⌝ }
+    ensures is { result ≡ 2 ^ bits }
+    ensures least { 2 ≤ result }
+    ensures most { result ≤ 4 }
 {
     1 << bits
 }

@@ -60,7 +60,7 @@ fn row(x: u32, f: u32, exact: bool) -> FixedRow
 }
 
 fn single_row(mode: Mode, operand: u32, res: u32, exact: bool) -> SingleRow
-    ensures* { λ r. ⌜ r ≡ record { mode = mode; operand = operand; result = res; exact = exact } ⌝ }
+    ensures { result ≡ record { mode = mode; operand = operand; result = res; exact = exact } }
 {
     SingleRow {
         mode,

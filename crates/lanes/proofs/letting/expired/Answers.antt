@@ -13,10 +13,10 @@ pub loop-i-preserved : goal.loop-i-preserved
 loop-i-preserved c =
     let ls = c.loop-i.left in
     let i = c.loop-i.i in
-    let r = c.at-time.result in
+    let r = c.at_time.result in
     let n = c.loop-i.invariant.0 in
     let was = get_or_default ls i c.index-left-i.result empty (inside i (length ls) c.loop-i-test.true n) in
-    let gone : lane_of c.at-time.result.holder ≡ expires c.args.time (lane_of (get_or c.loop-i.left c.loop-i.i c.index-left-i.result).holder) = c.at-time.ensures in
+    let gone : lane_of c.at_time.result.holder ≡ expires c.args.time (lane_of (get_or c.loop-i.left c.loop-i.i c.index-left-i.result).holder) = c.at_time.ensures in
     (length-set ls i r ∙ n, expiring c.args.lanes ls c.args.time i r c.loop-i-test.true n c.loop-i.invariant.1 (gone ∙ ap (λ (x : Lane). expires c.args.time (lane_of x.holder)) was))
   where
     inside : (i l : ℕ) → i < 8 → l ≡ 8 → i < l

@@ -3,8 +3,8 @@ use Rattle.std.proofs.lemmas.Int.{ints}
 use Rattle.recurrence.proofs.Products.{placed}
 use Rattle.recurrence.proofs.digit.at_place.Goals as goal
 
-pub overflow-cast-result-2 : goal.overflow-cast-result-2
-overflow-cast-result-2 c =
+pub overflow_cast-result-2 : goal.overflow_cast-result-2
+overflow_cast-result-2 c =
     let fits = placed c.args.factor (2 ^ 32) c.args.place (omega arith) (omega arith) in omega (arith, ints)
 
 pub returns : goal.returns

@@ -30,8 +30,8 @@ returns g c =
     let S = g.S.Selector.model c.args.selector.now in
     let F = g.F.NumberForm.model c.args.form.now in
     let o = c.args.operand in
-    let r = c.make-all-turns.result in
-    let e = c.make-all-turns.ensures in
+    let r = c.make_all_turns.result in
+    let e = c.make_all_turns.ensures in
     let LS = c.lawful.ensures in
     let LF = c.lawful-2.ensures in
     record {

@@ -18,10 +18,10 @@ pub returns : goal.returns
 returns g c =
     let S = g.S.Selector.model c.args.selector.now in
     let F = g.F.NumberForm.model c.args.form.now in
-    let r = c.answer-by-digits.result in
-    let it = right S F c.lawful.ensures c.lawful-2.ensures c.args.mode c.args.word r c.answer-by-digits.ensures in
+    let r = c.answer_by_digits.result in
+    let it = right S F c.lawful.ensures c.lawful-2.ensures c.args.mode c.args.word r c.answer_by_digits.ensures in
     record {
-      digits = c.answer-by-digits.ensures;
+      digits = c.answer_by_digits.ensures;
       right = it;
       no_other = λ w m other. rsqrt_once c.args.mode c.args.word w r.word m r.marks other it;
       no_ties = never_tied;

@@ -13,8 +13,8 @@ word q h s = mod-eq_of_lt (omega (arith, s.fits))
 unit : (q h : ℕ) → InPartial q (h * 2 ^ (q - 1)) → (1 * 2 ^ q) % 2 ^ 32 ≡ 2 ^ q
 unit q h s = let one : 1 * 2 ^ q ≡ 2 ^ q = omega arith in rw one (mod-eq_of_lt (omega (arith, s.fits, s.least)))
 
-pub overflow-sub-result : goal.overflow-sub-result
-overflow-sub-result c =
+pub overflow_sub-result : goal.overflow_sub-result
+overflow_sub-result c =
     let q = c.args.operand.q in
     let h = c.halves.result in
     let s = start_size q h (omega arith) (omega arith) (omega (arith, halves_least c.args.start)) (omega (arith, halves_most c.args.start)) in

@@ -35,9 +35,9 @@ as_terms q t =
     let f = +ℤ_idl (neg_ℤ (q *ℤ (q *ℤ t))) in
     cc
 
-pub overflow-sub-result : goal.overflow-sub-result
-overflow-sub-result c =
-    let s = small c.args.digit c.args.term c.requires.0.0 c.requires.0.1 c.requires.1.0 c.requires.1.1 in
+pub overflow_sub-result : goal.overflow_sub-result
+overflow_sub-result c =
+    let s = small c.args.digit c.args.term c.requires.digit_fits.0 c.requires.digit_fits.1 c.requires.term_fits.0 c.requires.term_fits.1 in
     let a = s.digit in
     let b = s.term in
     let d = s.once in
@@ -46,7 +46,7 @@ overflow-sub-result c =
 
 pub returns : goal.returns
 returns c =
-    let s = small c.args.digit c.args.term c.requires.0.0 c.requires.0.1 c.requires.1.0 c.requires.1.1 in
+    let s = small c.args.digit c.args.term c.requires.digit_fits.0 c.requires.digit_fits.1 c.requires.term_fits.0 c.requires.term_fits.1 in
     let a = s.digit in
     let b = s.term in
     let t = s.multiple in
@@ -55,9 +55,9 @@ returns c =
     let f = s.less in
     simp to_z-of_z (as_terms c.args.digit c.args.term)
 
-pub overflow-mul-result-2 : goal.overflow-mul-result-2
-overflow-mul-result-2 c =
-    let s = small c.args.digit c.args.term c.requires.0.0 c.requires.0.1 c.requires.1.0 c.requires.1.1 in
+pub overflow_mul-result-2 : goal.overflow_mul-result-2
+overflow_mul-result-2 c =
+    let s = small c.args.digit c.args.term c.requires.digit_fits.0 c.requires.digit_fits.1 c.requires.term_fits.0 c.requires.term_fits.1 in
     let a = s.digit in
     let b = s.term in
     let d = s.once in

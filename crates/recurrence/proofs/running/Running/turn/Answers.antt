@@ -10,58 +10,51 @@ use Rattle.recurrence.proofs.running.Running.turn.Goals as goal
 pub of-terms-requires : goal.of-terms-requires
 of-terms-requires g c =
     let S = g.S.Selector.model c.args.selector.now in
-    let rad : c.radix-of-radix.result ≡ 2 ^ S.bits = c.radix-of-radix.ensures.is ∙ ap (λ k. 2 ^ k) c.digit-bits-bits.ensures in
-    let few : 2 ^ S.bits ≤ 4 = omega (arith, rad, c.radix-of-radix.ensures.most) in
+    let rad : c.radix_of-radix.result ≡ 2 ^ S.bits = c.radix_of-radix.ensures.is ∙ ap (λ k. 2 ^ k) c.digit_bits-bits.ensures in
+    let few : 2 ^ S.bits ≤ 4 = omega (arith, rad, c.radix_of-radix.ensures.most) in
     let least = c.pick-choice.ensures.least in
     let most = c.pick-choice.ensures.most in
-    let term = c.at-place.ensures.is in
-    let high = c.at-place.ensures.most in
-    ((omega (arith, ints), omega (arith, ints)), (omega (arith, ints), omega (arith, ints)))
+    let term = c.at_place.ensures.is in
+    let high = c.at_place.ensures.most in
+    record { digit_fits = (omega (arith, ints), omega (arith, ints)); term_fits = (omega (arith, ints), omega (arith, ints)) }
 
 pub append-partial-requires : goal.append-partial-requires
 append-partial-requires g c =
     let S = g.S.Selector.model c.args.selector.now in
-    let rad : c.radix-of-radix.result ≡ 2 ^ S.bits = c.radix-of-radix.ensures.is ∙ ap (λ k. 2 ^ k) c.digit-bits-bits.ensures in
+    let rad : c.radix_of-radix.result ≡ 2 ^ S.bits = c.radix_of-radix.ensures.is ∙ ap (λ k. 2 ^ k) c.digit_bits-bits.ensures in
     let least = c.pick-choice.ensures.least in
     let most = c.pick-choice.ensures.most in
     let self = c.args.self.now in
     let top : 2 ^ (self.registers.q + 2) ≤ 2 ^ 30 = pow_mono {j = 30} (omega arith) in
-    ((c.radix-of-radix.ensures.least, (c.radix-of-radix.ensures.most, omega arith)), (omega (arith, ints), omega (arith, ints)), (omega arith, omega arith))
+    (record { sizes = (c.radix_of-radix.ensures.least, (c.radix_of-radix.ensures.most, omega arith)); digit_fits = (omega (arith, ints), omega (arith, ints)); partial_fits = (omega arith, omega arith) })
 
-pub invariant-of-self : goal.invariant-of-self
-invariant-of-self g c =
+pub invariant_of-self : goal.invariant_of-self
+invariant_of-self g c =
     let S = g.S.Selector.model c.args.selector.now in
     let u = c.args.self.now in
     let before = u.registers in
-    let r = c.radix-of-radix.result in
-    let b = c.digit-bits-bits.result in
+    let r = c.radix_of-radix.result in
+    let b = c.digit_bits-bits.result in
     let p = before.place - b in
     let q : ℤ = to_z w64 (of_z w64 c.pick-choice.result.digit) in
-    let rad : r ≡ 2 ^ S.bits = c.radix-of-radix.ensures.is ∙ ap (λ k. 2 ^ k) c.digit-bits-bits.ensures in
+    let rad : r ≡ 2 ^ S.bits = c.radix_of-radix.ensures.is ∙ ap (λ k. 2 ^ k) c.digit_bits-bits.ensures in
     let least = c.pick-choice.ensures.least in
     let most = c.pick-choice.ensures.most in
     let low : neg_ℤ (pos r) <ℤ q = omega (arith, ints) in
     let high : q <ℤ pos r = omega (arith, ints) in
     let split : before.place ≡ b + p = omega (arith, c.if-before-bits.false) in
-    let whole : 2 ^ before.place ≡ r * 2 ^ p = ap (λ k. 2 ^ k) split ∙ pow-add 2 b p ∙ ap (λ k. k * 2 ^ p) (sym c.radix-of-radix.ensures.is) in
+    let whole : 2 ^ before.place ≡ r * 2 ^ p = ap (λ k. 2 ^ k) split ∙ pow-add 2 b p ∙ ap (λ k. k * 2 ^ p) (sym c.radix_of-radix.ensures.is) in
     let v = converted (2 ^ (before.q + 2)) r p before.partial (omega (arith, u.below)) (omega (arith, u.most)) q low high in
     let s_is : c.append-partial.result.s ≡ next_s (pos r) q p before.partial = ap (λ (k : Partial). k.s) c.append-partial.ensures in
-    let below_is : c.append-partial.result.below ≡ next_below (pos r) q p before.partial = ap (λ (k : Partial). k.below) c.append-partial.ensures in (
-      u.width,
-      (
-        (u.places.0, u.places.1, omega arith),
-        (
-          u.factor,
-          (
-            subst (λ k. 2 ^ p ≤ k) (sym s_is) v.least,
-            (
-              subst (λ k. k + 2 ^ p ≤ 2 ^ (before.q + 2)) (sym s_is) v.most,
-              (ap (λ k. k + 2 ^ p) below_is ∙ v.below ∙ sym s_is, tt),
-            ),
-          ),
-        ),
-      ),
-    )
+    let below_is : c.append-partial.result.below ≡ next_below (pos r) q p before.partial = ap (λ (k : Partial). k.below) c.append-partial.ensures in
+    record {
+      width = u.width;
+      places = (u.places.0, u.places.1, omega arith);
+      factor = u.factor;
+      least = subst (λ k. 2 ^ p ≤ k) (sym s_is) v.least;
+      most = subst (λ k. k + 2 ^ p ≤ 2 ^ (before.q + 2)) (sym s_is) v.most;
+      below = ap (λ k. k + 2 ^ p) below_is ∙ v.below ∙ sym s_is;
+    }
 
 not_less : (m n : ℕ) → n ≤ m → ltb m n ≡ false
 not_less m n h = grind (arith, nat_tests)
@@ -72,19 +65,19 @@ returns g c =
     let F = g.F.NumberForm.model c.args.form.now in
     let before = c.args.self.now.registers in
     let y = c.of-terms.result in
-    let rad : c.radix-of-radix.result ≡ 2 ^ S.bits = c.radix-of-radix.ensures.is ∙ ap (λ k. 2 ^ k) c.digit-bits-bits.ensures in
-    let few : 2 ^ S.bits ≤ 4 = omega (arith, rad, c.radix-of-radix.ensures.most) in
+    let rad : c.radix_of-radix.result ≡ 2 ^ S.bits = c.radix_of-radix.ensures.is ∙ ap (λ k. 2 ^ k) c.digit_bits-bits.ensures in
+    let few : 2 ^ S.bits ≤ 4 = omega (arith, rad, c.radix_of-radix.ensures.most) in
     let least = c.pick-choice.ensures.least in
     let most = c.pick-choice.ensures.most in
-    let room : S.bits ≤ before.place = omega (arith, c.if-before-bits.false, c.digit-bits-bits.ensures) in
+    let room : S.bits ≤ before.place = omega (arith, c.if-before-bits.false, c.digit_bits-bits.ensures) in
     let more : complete S before ≡ false = not_less before.place S.bits room in
     let digit : to_z w64 (of_z w64 c.pick-choice.result.digit) ≡ c.pick-choice.result.digit = omega (arith, ints) in
-    let term : to_z w64 (of_z w64 c.at-place.result) ≡ c.at-place.result = omega (arith, ints) in
+    let term : to_z w64 (of_z w64 c.at_place.result) ≡ c.at_place.result = omega (arith, ints) in
     let once : SFits w64 y.once = search rules in
-    let shifted : c.shift-shifted.result ≡ F.shift c.digit-bits-bits.result before.residual = c.shift-shifted.ensures ∙ ap (λ k. F.shift k before.residual) c.shift-by.ensures in
+    let shifted : c.shift-shifted.result ≡ F.shift c.digit_bits-bits.result before.residual = c.shift-shifted.ensures ∙ ap (λ k. F.shift k before.residual) c.shift_by.ensures in
     record {
-      tells = chosen_if S F before c.digit-bits-bits.ensures shifted c.pick-choice.ensures.is more;
+      tells = chosen_if S F before c.digit_bits-bits.ensures shifted c.pick-choice.ensures.is more;
       after = assembled S F before digit term (to_z-of_z w64 y.once once)
-          c.digit-bits-bits.ensures c.radix-of-radix.ensures.is c.from.ensures shifted c.pick-choice.ensures.is
-          c.at-place.ensures.is c.of-terms.ensures c.reduce-residual.ensures c.add-product.ensures c.append-partial.ensures more;
+          c.digit_bits-bits.ensures c.radix_of-radix.ensures.is c.from.ensures shifted c.pick-choice.ensures.is
+          c.at_place.ensures.is c.of-terms.ensures c.reduce-residual.ensures c.add-product.ensures c.append-partial.ensures more;
     }
