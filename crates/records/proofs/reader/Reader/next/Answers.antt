@@ -4,8 +4,8 @@ use Rattle.records.specs.Records.{item}
 use Rattle.records.proofs.Suffix.{next_ok, next_err, further, label_short, placed_within}
 use Rattle.records.proofs.reader.Reader.next.Goals as goal
 
-pub returns-in-default : goal.returns-in-default
-returns-in-default c =
+pub returns-in_default : goal.returns-in-default
+returns-in_default c =
     record {
       same = search rules;
       within = tt;
