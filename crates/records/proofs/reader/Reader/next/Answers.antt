@@ -4,13 +4,13 @@ use Rattle.records.specs.Records.{item}
 use Rattle.records.proofs.Suffix.{next_ok, next_err, further, label_short, placed_within}
 use Rattle.records.proofs.reader.Reader.next.Goals as goal
 
-pub returns-in_default : goal.returns-in-default
+pub returns-in_default : goal.returns-in_default
 returns-in_default c =
     record {
       same = search rules;
       within = tt;
       ahead = tt;
-      reads = (sym (take_rest c.args.self.now.input.now c.args.self.now.at) ∙ c.in-default.ensures, search rules);
+      reads = (sym (take_rest c.args.self.now.input.now c.args.self.now.at) ∙ c.in_default.ensures, search rules);
     }
 
 pub returns-in-Ok : goal.returns-in-Ok
