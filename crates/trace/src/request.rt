@@ -1,3 +1,4 @@
+use anyhow::bail;
 use selection::operand::Operand;
 use single::mode::Mode;
 use std::env;
@@ -94,9 +95,9 @@ pub(crate) fn read(rt: &HostRuntime) -> anyhow::Result<Request> {
     let task = if named.help {
         Task::Help
     } else if named.single {
-        read_single(rt, words.as_slice(), named.mode)?
+        read_single(words.as_slice(), named.mode)?
     } else {
-        read_fixed(rt, words.as_slice())?
+        read_fixed(words.as_slice())?
     };
     Ok(Request {
         radix: named.radix,
@@ -105,52 +106,43 @@ pub(crate) fn read(rt: &HostRuntime) -> anyhow::Result<Request> {
     })
 }
 
-fn read_single(rt: &HostRuntime, words: &[String], mode: Mode) -> anyhow::Result<Task> {
+fn read_single(words: &[String], mode: Mode) -> anyhow::Result<Task> {
     let [word] = words else {
-        return Err(USAGE.into());
+        bail!("{USAGE}");
     };
     match u32::from_str_radix(word.as_str(), 16) {
         Ok(bits) => Ok(Task::Single(bits, mode)),
-        Err(_) => {
-            let text = format!(in rt.alloc();
-                "{word} is not the word of a single in hexadecimal; {USAGE}"
-            )?;
-            Err(text.into())
-        }
+        Err(_) => bail!("{word} is not the word of a single in hexadecimal; {USAGE}"),
     }
 }
 
-fn read_fixed(rt: &HostRuntime, words: &[String]) -> anyhow::Result<Task> {
+fn read_fixed(words: &[String]) -> anyhow::Result<Task> {
     match words {
-        [] => check_operand(rt, 4, 4, 8),
+        [] => check_operand(4, 4, 8),
         [k, q, x] => {
-            let k = read_number(rt, k.as_str())?;
-            let q = read_number(rt, q.as_str())?;
-            let x = read_number(rt, x.as_str())?;
-            check_operand(rt, k, q, x)
+            let k = read_number(k.as_str())?;
+            let q = read_number(q.as_str())?;
+            let x = read_number(x.as_str())?;
+            check_operand(k, q, x)
         }
-        _ => Err(USAGE.into()),
+        _ => bail!("{USAGE}"),
     }
 }
 
-fn read_number(rt: &HostRuntime, word: &str) -> anyhow::Result<u32> {
+fn read_number(word: &str) -> anyhow::Result<u32> {
     match word.parse::<u32>() {
         Ok(number) => Ok(number),
-        Err(_) => {
-            let text = format!(in rt.alloc(); "{word} is not a number below 2^32; {USAGE}")?;
-            Err(text.into())
-        }
+        Err(_) => bail!("{word} is not a number below 2^32; {USAGE}"),
     }
 }
 
 /// Checks the operand, and tells a refusal by its number and its cause.
-fn check_operand(rt: &HostRuntime, k: u32, q: u32, x: u32) -> anyhow::Result<Task> {
+fn check_operand(k: u32, q: u32, x: u32) -> anyhow::Result<Task> {
     match Operand::new(k, q, x) {
         Ok(operand) => Ok(Task::Fixed(operand)),
         Err(refusal) => {
             let number = refusal.number();
-            let text = format!(in rt.alloc(); "refused by {number}: {refusal}")?;
-            Err(text.into())
+            bail!("refused by {number}: {refusal}")
         }
     }
 }

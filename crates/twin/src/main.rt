@@ -1,6 +1,7 @@
 // twin: runs a vector stream from standard input on a new bank, and writes the answers.
 #![tactic(auto)]
 
+use anyhow::bail;
 use bank::bank::Bank;
 use control::control::Control;
 use number_form::plain::Plain;
@@ -38,7 +39,7 @@ fn run_input(rt: &HostRuntime) -> anyhow::Result<()> {
             }
             Ok(())
         }
-        Err(fault) => Err(cause(fault).into()),
+        Err(fault) => bail!("{}", cause(fault)),
     }
 }
 
