@@ -5,28 +5,24 @@
 # make bench    measures the exported function beside a plain C model
 
 ARGS ?=
-KIT = $(shell dirname $$(dirname $$(rt doc)))
 
 .PHONY: run test example bench verify-singles
 
 run:
 	@mkdir -p target
 	@echo "proving and building trace and twin (some minutes the first time)" >&2
-	@rt check trace twin > target/run.log 2>&1 || { cat target/run.log; exit 1; }
-	@target/bin/trace $(ARGS)
+	@for name in trace twin; do (cd crates/$$name && rt run < /dev/null) > target/run.log 2>&1 || { cat target/run.log; exit 1; }; done
+	@crates/trace/out/trace $(ARGS)
 	@echo; echo "The stream crates/twin/stdin"; od -An -v -tx1 crates/twin/stdin
-	@echo "run by twin gives"; target/bin/twin < crates/twin/stdin | od -An -v -tx1
+	@echo "run by twin gives"; crates/twin/out/twin < crates/twin/stdin | od -An -v -tx1
 
 test:
-	rt fmt --check
-	$(MAKE) --no-print-directory example
-	tests/compiler/run
-	rt ci
+	@tests/gate
 
 example:
 	@mkdir -p target
-	@rt staticlib c_interface > target/staticlib.log 2>&1 || { cat target/staticlib.log; exit 1; }
-	gcc -O2 -Wall -Wextra -Iinclude -o target/simulate examples/c/simulate.c target/staticlib/libc_interface.a $(KIT)/lib/librattle_c.a
+	@rt lib c_interface > target/library.log 2>&1 || { cat target/library.log; exit 1; }
+	gcc -O2 -Wall -Wextra -Iinclude -o target/simulate examples/c/simulate.c crates/c_interface/out/libc_interface.a
 	target/simulate > target/simulate.out
 	diff examples/c/expected target/simulate.out
 

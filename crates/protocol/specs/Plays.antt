@@ -32,9 +32,9 @@ as_play e = record { call = e.call; reply = Some e.reply }
 
 -- If the calls of the past are all that ever happened to the bank before, then they and the list are all that did after, and the list's
 -- answers are those of that history.
-pub record InHistory (m : Make) (list : List Play) (played_list : List Play) (now : Bank) (past : List Call) : Type 0 where
+pub record InHistory (m : Make) (before : Bank) (list : List Play) (played_list : List Play) (now : Bank) (past : List Call) : Type 0 where
   pub bank_is : now ≡ bank_after m (onto (calls_of list) past)
   pub answers_are : map as_play (history m (onto (calls_of list) past)) ≡ onto played_list (map as_play (history m past))
 
 abbrev pub StandsInHistory : Make → Bank → List Play → List Play → Bank → Type 0
-StandsInHistory m before list played_list now = (past : List Call) → before ≡ bank_after m past → InHistory m list played_list now past
+StandsInHistory m before list played_list now = (past : List Call) → before ≡ bank_after m past → InHistory m before list played_list now past

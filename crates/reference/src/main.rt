@@ -2,7 +2,6 @@
 #![tactic(auto)]
 
 mod makes;
-mod story;
 
 use makes::{six, six_singles};
 use number_form::plain::Plain;
@@ -14,7 +13,6 @@ use selection::radix2::Radix2;
 use selection::radix4::Radix4;
 use single::mode::Mode;
 use std::io;
-use story::story;
 
 fn main(rt: HostRuntime) -> io::Result<()> {
     established(&rt)?;
@@ -36,7 +34,7 @@ fn main(rt: HostRuntime) -> io::Result<()> {
     for word in SINGLES {
         run_single(&rt, word)?;
     }
-    story(&rt)
+    Ok(())
 }
 
 /// Runs the established rows.

@@ -5,6 +5,7 @@ mod number;
 mod request;
 mod single_table;
 mod table;
+mod trouble;
 
 use number_form::NumberForm;
 use number_form::borrow_save::BorrowSave;
@@ -15,16 +16,21 @@ use selection::Selector;
 use selection::radix2::Radix2;
 use selection::radix4::Radix4;
 use std::io;
+use std::process::ExitCode;
+use trouble::Trouble;
 
-fn main(rt: HostRuntime) -> anyhow::Result<()> {
-    let ran = run(&rt);
-    if let Err(error) = &ran {
-        eprintln!(rt; "trace: {error}")?;
+fn main(rt: HostRuntime) -> ExitCode {
+    match run(&rt) {
+        Ok(()) => ExitCode::SUCCESS,
+        Err(trouble) => {
+            // where this can't be written either, the status alone tells
+            let _ = eprintln!(rt; "trace: {trouble}");
+            ExitCode::FAILURE
+        }
     }
-    ran
 }
 
-fn run(rt: &HostRuntime) -> anyhow::Result<()> {
+fn run(rt: &HostRuntime) -> Result<(), Trouble> {
     let Request { radix, form, task } = request::read(rt)?;
     match radix {
         Radix::Two => run_over(rt, &Radix2, form, task)?,

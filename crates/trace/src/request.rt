@@ -1,10 +1,7 @@
-use anyhow::bail;
+use crate::trouble::Trouble;
 use selection::operand::Operand;
 use single::mode::Mode;
 use std::env;
-
-const USAGE: &str =
-    "usage: trace [MAKE] [K Q x], or trace [MAKE] single WORD [MODE]; trace help says more";
 
 /// What `trace help` prints.
 pub(crate) const HELP: &str = "trace works one job off and prints every digit.
@@ -78,7 +75,7 @@ impl Named {
 }
 
 /// Reads the request from the arguments.
-pub(crate) fn read(rt: &HostRuntime) -> anyhow::Result<Request> {
+pub(crate) fn read(rt: &HostRuntime) -> Result<Request, Trouble> {
     let mut named = Named {
         radix: Radix::Two,
         form: Form::Plain,
@@ -95,9 +92,9 @@ pub(crate) fn read(rt: &HostRuntime) -> anyhow::Result<Request> {
     let task = if named.help {
         Task::Help
     } else if named.single {
-        read_single(words.as_slice(), named.mode)?
+        read_single(rt, words.as_slice(), named.mode)?
     } else {
-        read_fixed(words.as_slice())?
+        read_fixed(rt, words.as_slice())?
     };
     Ok(Request {
         radix: named.radix,
@@ -106,43 +103,37 @@ pub(crate) fn read(rt: &HostRuntime) -> anyhow::Result<Request> {
     })
 }
 
-fn read_single(words: &[String], mode: Mode) -> anyhow::Result<Task> {
+fn read_single(rt: &HostRuntime, words: &[String], mode: Mode) -> Result<Task, Trouble> {
     let [word] = words else {
-        bail!("{USAGE}");
+        return Err(Trouble::Usage);
     };
     match u32::from_str_radix(word.as_str(), 16) {
         Ok(bits) => Ok(Task::Single(bits, mode)),
-        Err(_) => bail!("{word} is not the word of a single in hexadecimal; {USAGE}"),
+        Err(_) => Err(Trouble::NoWord(word.clone()?)),
     }
 }
 
-fn read_fixed(words: &[String]) -> anyhow::Result<Task> {
+fn read_fixed(rt: &HostRuntime, words: &[String]) -> Result<Task, Trouble> {
     match words {
         [] => check_operand(4, 4, 8),
         [k, q, x] => {
-            let k = read_number(k.as_str())?;
-            let q = read_number(q.as_str())?;
-            let x = read_number(x.as_str())?;
+            let k = read_number(rt, k.as_str())?;
+            let q = read_number(rt, q.as_str())?;
+            let x = read_number(rt, x.as_str())?;
             check_operand(k, q, x)
         }
-        _ => bail!("{USAGE}"),
+        _ => Err(Trouble::Usage),
     }
 }
 
-fn read_number(word: &str) -> anyhow::Result<u32> {
+fn read_number(rt: &HostRuntime, word: &str) -> Result<u32, Trouble> {
     match word.parse::<u32>() {
         Ok(number) => Ok(number),
-        Err(_) => bail!("{word} is not a number below 2^32; {USAGE}"),
+        Err(_) => Err(Trouble::NoNumber(word.to_string(rt.alloc())?)),
     }
 }
 
-/// Checks the operand, and tells a refusal by its number and its cause.
-fn check_operand(k: u32, q: u32, x: u32) -> anyhow::Result<Task> {
-    match Operand::new(k, q, x) {
-        Ok(operand) => Ok(Task::Fixed(operand)),
-        Err(refusal) => {
-            let number = refusal.number();
-            bail!("refused by {number}: {refusal}")
-        }
-    }
+/// Checks the operand.
+fn check_operand(k: u32, q: u32, x: u32) -> Result<Task, Trouble> {
+    Ok(Task::Fixed(Operand::new(k, q, x)?))
 }

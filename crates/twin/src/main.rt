@@ -1,7 +1,8 @@
 // twin: runs a vector stream from standard input on a new bank, and writes the answers.
 #![tactic(auto)]
 
-use anyhow::bail;
+mod trouble;
+
 use bank::bank::Bank;
 use control::control::Control;
 use number_form::plain::Plain;
@@ -9,42 +10,43 @@ use records::fault::Fault;
 use selection::radix2::Radix2;
 use seven_bit::fault::NumberFault;
 use std::io::{Read, Write};
+use std::process::ExitCode;
 use stream::run::{LONGEST, run};
+use trouble::Trouble;
 
 /// The output holds so many bytes.
 const OUTPUT: usize = 65536;
 
-fn main(rt: HostRuntime) -> anyhow::Result<()> {
-    let done = run_input(&rt);
-    if let Err(error) = &done {
-        eprintln!(rt; "twin: {error}")?;
+fn main(rt: HostRuntime) -> ExitCode {
+    match run_input(&rt) {
+        Ok(()) => ExitCode::SUCCESS,
+        Err(trouble) => {
+            // where this can't be written either, the status alone tells
+            let _ = eprintln!(rt; "twin: {trouble}");
+            ExitCode::FAILURE
+        }
     }
-    done
 }
 
-fn run_input(rt: &HostRuntime) -> anyhow::Result<()> {
+fn run_input(rt: &HostRuntime) -> Result<(), Trouble> {
     let mut input = Vec::new(rt.alloc());
     rt.stdin().take(LONGEST as u64 + 1).read_to_end(&mut input)?;
     let mut bank = Bank::new(Radix2, Plain);
     let mut control = Control::new();
     let mut output = [0; OUTPUT];
-    match run(&mut bank, &mut control, &input, &mut output) {
-        Ok(report) => {
-            rt.stdout().write_all(&output[..report.written])?;
-            if let Some(stop) = report.stop {
-                let number = stop.fault.number();
-                let place = stop.place;
-                let cause = cause(stop.fault);
-                eprintln!(rt; "twin: ended by {number} at place {place}: {cause}")?;
-            }
-            Ok(())
-        }
-        Err(fault) => bail!("{}", cause(fault)),
+    let report = run(&mut bank, &mut control, &input, &mut output)?;
+    rt.stdout().write_all(&output[..report.written])?;
+    if let Some(stop) = report.stop {
+        let number = stop.fault.number();
+        let place = stop.place;
+        let cause = cause(stop.fault);
+        eprintln!(rt; "twin: ended by {number} at place {place}: {cause}")?;
     }
+    Ok(())
 }
 
 /// Says in words what ends a run, or keeps it from beginning.
-fn cause(fault: Fault) -> &'static str {
+pub(crate) fn cause(fault: Fault) -> &'static str {
     match fault {
         Fault::NoSuchRecord => "the record's first byte is above 9",
         Fault::Number(NumberFault::Malformed) => {

@@ -1,3 +1,6 @@
+// story: plays the story of a slow job that outlives its hold, on a bank of each of the six makes, and prints each call with its answer.
+#![tactic(auto)]
+
 use bank::bank::Bank;
 use number_form::NumberForm;
 use number_form::borrow_save::BorrowSave;
@@ -11,15 +14,14 @@ use selection::radix4::Radix4;
 use single::mode::Mode;
 use std::io;
 
-/// Plays the story of the slow job on a bank of each of the six makes.
-pub(crate) fn story(rt: &HostRuntime) -> io::Result<()> {
+fn main(rt: HostRuntime) -> io::Result<()> {
     println!(rt; "A slow job outlives its hold, by all six makes")?;
-    play(rt, "radix 2, plain", Radix2, Plain)?;
-    play(rt, "radix 2, carry-save", Radix2, CarrySave)?;
-    play(rt, "radix 2, borrow-save", Radix2, BorrowSave)?;
-    play(rt, "radix 4, plain", Radix4, Plain)?;
-    play(rt, "radix 4, carry-save", Radix4, CarrySave)?;
-    play(rt, "radix 4, borrow-save", Radix4, BorrowSave)
+    play(&rt, "radix 2, plain", Radix2, Plain)?;
+    play(&rt, "radix 2, carry-save", Radix2, CarrySave)?;
+    play(&rt, "radix 2, borrow-save", Radix2, BorrowSave)?;
+    play(&rt, "radix 4, plain", Radix4, Plain)?;
+    play(&rt, "radix 4, carry-save", Radix4, CarrySave)?;
+    play(&rt, "radix 4, borrow-save", Radix4, BorrowSave)
 }
 
 /// Plays it on a new bank, and prints each call with its answer.
