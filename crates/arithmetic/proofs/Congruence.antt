@@ -1,5 +1,5 @@
 -- Numbers modulo 2 ^ 64, and when a congruence is an equation.
-use Rattle.std.proofs.Common.{◌≡◌, ℕ, zero, suc, ◌+◌, ◌-◌, ◌*◌, ◌^◌, ◌<◌, ◌≤◌, [], ◌∷◌, ℤ, pos, negsuc, ◌+ℤ◌, ◌-ℤ◌, ◌*ℤ◌, neg_ℤ, ◌≤ℤ◌, ◌<ℤ◌, sym, refl, ap, ◌∙◌, ap₂, arith}
+use Rattle.std.proofs.Common.{◌≡◌, ℕ, zero, suc, ◌+◌, ◌^◌, ◌<◌, ◌≤◌, [], ◌∷◌, ℤ, pos, negsuc, ◌+ℤ◌, ◌-ℤ◌, ◌*ℤ◌, neg_ℤ, sym, refl, ap, ◌∙◌, ap₂, arith}
 use borrow.Author.Differences.{ints, up, down}
 use Rattle.arithmetic.proofs.Ring.{ring, ring₂, ring₃, ring₄, v, #, ◌⊕◌, ◌⊖◌, ◌⊗◌, neg}
 use Rattle.arithmetic.specs.Residues.{Congruent, InSigned}

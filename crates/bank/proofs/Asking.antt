@@ -1,10 +1,9 @@
 -- What a request with a hold is answered and leaves, from the holder that the code finds.
-use Rattle.std.proofs.Common.{◌≡◌, ℕ, ◌<◌, Bool, true, false, cond, eqb, ltb, get_or, Some, None, Ok, Err, Option, Result, sym, refl, ap, ◌∙◌, subst, arith, eqb-true}
+use Rattle.std.proofs.Common.{◌≡◌, ℕ, Bool, true, false, eqb, ltb, get_or, Some, None, Ok, Err, Option, sym, refl, ap, ◌∙◌, subst, arith, eqb-true}
 use mathlib.Core.Path.{fun_ext}
 use Rattle.std.proofs.lemmas.Bool.Decides.{nat_tests}
 use Rattle.lane_job.specs.declared.job.LaneJob.{LaneJob}
 use Rattle.lanes.specs.declared.lanes.Holder.{Holder}
-use Rattle.lanes.specs.declared.lanes.Lane.{Lane}
 use Rattle.lanes.specs.declared.lanes.Lanes.{Lanes}
 use Rattle.protocol.specs.declared.refusal.Refusal.{Refusal}
 use Rattle.protocol.specs.declared.refusal.Refusal.TheVariants.{NotInForce}
@@ -23,9 +22,7 @@ use Rattle.protocol.specs.Bank.Served.{stopped, goes_on, frees}
 use Rattle.lane_job.specs.Seen.{seen_job, seen_option}
 use Rattle.lanes.specs.Seen.{seen, lane_of, lane_at, empty, put, matching, in_force}
 use Rattle.arithmetic.proofs.Cases.{clash}
-use Rattle.protocol.proofs.Views.{eqb_self, either}
 use Rattle.protocol.proofs.Refusing.{same_lane}
-use Rattle.lanes.proofs.Seeing.{lane_here}
 
 same_at : (i : ℕ) (f g : bank.Lane → bank.Lane) (lanes : ℕ → bank.Lane) → f (lanes i) ≡ g (lanes i) → at i f lanes ≡ at i g lanes
 same_at i f g lanes e = fun_ext (λ k. go k (eqb k i) refl)

@@ -8,7 +8,7 @@ use Rattle.arithmetic.proofs.Ring.{add_*ℤ}
 use Rattle.selection.specs.Operands.{Sized, InRange, Contained}
 use Rattle.selection.specs.Selectors.{Residual, LawfulSelector, Contains, beyond, guarded}
 use Rattle.selection.specs.Radix2.{down_from, up_from, choice_2, radix_2}
-use Rattle.selection.proofs.Range.{plain, above_quarter, whole, Sides, shuts, balanced}
+use Rattle.selection.proofs.Range.{plain, whole, Sides, shuts, balanced}
 use Rattle.selection.proofs.Scale.{natural}
 use Rattle.selection.proofs.Guard.{guard_still}
 use Rattle.selection.proofs.Radix2Digit.{Bound2}

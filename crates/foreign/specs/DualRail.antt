@@ -1,5 +1,5 @@
 -- The dual-rail form: the number in the second word, and every bit of it inverted in the first.
-use Rattle.std.specs.Prelude.{ℕ, ◌-◌, ◌*◌, ◌%◌, ◌^◌, cond, ℤ, pos, ◌+ℤ◌, ◌*ℤ◌, ◌==◌, nat_lt}
+use Rattle.std.specs.Prelude.{ℕ, ◌-◌, ◌*◌, ◌%◌, ◌^◌, cond, pos, ◌+ℤ◌, ◌*ℤ◌, ◌==◌, nat_lt}
 use Rattle.arithmetic.specs.Residues.{word, signed, floored}
 use Rattle.number_form.specs.declared.words.Words.{Words}
 use Rattle.number_form.specs.declared.sign.Sign.TheVariants.{Negative, NotNegative}

@@ -2,10 +2,8 @@
 use Rattle.std.specs.Prelude.{◌≡◌, ℕ, Ok, Err, Result}
 use Rattle.single.specs.declared.answer.Answer.{Answer}
 use Rattle.protocol.specs.declared.refusal.Refusal.{Refusal}
-use Rattle.protocol.specs.declared.call.Call.{Call}
 use Rattle.protocol.specs.declared.call.Call.TheVariants.{Take, Ask}
 use Rattle.protocol.specs.declared.call.Request.TheVariants.{Collect, Give}
-use Rattle.protocol.specs.declared.call.Reply.{Reply}
 use Rattle.protocol.specs.declared.call.Reply.TheVariants.{Refused, Done, Took, Told}
 use Rattle.control.specs.declared.control.Control.{Control}
 use Rattle.hold.specs.declared.hold.Hold.{Hold}

@@ -1,12 +1,10 @@
 -- What a write to the code's lanes is in the model.
-use Rattle.std.proofs.Common.{◌≡◌, ℕ, ◌+◌, ◌<◌, Bool, true, false, cond, eqb, ltb, List, length, get_or, set, sym, refl, ap, ◌∙◌, subst, arith, eqb-true}
-use mathlib.Core.Path.{fun_ext}
+use Rattle.std.proofs.Common.{◌≡◌, ℕ, ◌+◌, ◌<◌, Bool, true, false, cond, eqb, ltb, List, length, get_or, set, sym, refl, ap, ◌∙◌, arith, eqb-true}
 use borrow.Author.Tests.{eqb-false}
 use Rattle.std.proofs.lemmas.List.{get_or-set_same, get_or-set_other}
 use Rattle.std.proofs.lemmas.Bool.Decides.{nat_tests}
 use Rattle.lanes.specs.declared.lanes.Lane.{Lane}
 use Rattle.protocol.specs.Bank.{expires}
-use Rattle.protocol.specs.Bank as bank
 use Rattle.protocol.specs.Bank.Lane.{free}
 use Rattle.lanes.specs.Seen.{lane_of, lane_at, empty}
 

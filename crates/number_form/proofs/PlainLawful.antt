@@ -1,18 +1,16 @@
 -- The plain form is lawful; its estimates fall short by less than one unit.
-use Prim.Native.Nat.{ℕ, ◌+◌, ◌-◌, ◌*◌, ◌%◌, ◌^◌, ◌≤◌, ◌<◌}
+use Prim.Native.Nat.{ℕ, ◌*◌, ◌%◌, ◌^◌, ◌≤◌, ◌<◌}
 use mathlib.Core.Path.{◌≡◌, refl, ap, sym, ◌∙◌, subst}
-use mathlib.Core.Bool.{true}
 use native.Mathlib.Omega.{arith}
 use native.Mathlib.Nat.{mod-eq_of_lt}
-use lib.Dec.{ltb, eqb}
+use lib.Dec.{ltb}
 use lib.IntN.{ℤ, pos, ◌+ℤ◌, ◌*ℤ◌}
-use borrow.Author.Differences.{ints}
 use borrow.Author.Tests.{eqb-true, eq-eqb}
 use Rattle.arithmetic.specs.Residues.{Congruent, InSigned, word, signed, floored}
 use Rattle.arithmetic.proofs.Congruence.{cong_sym}
 use Rattle.arithmetic.proofs.Words.{word_fits, word_means, signed_is, range, floor}
 use Rattle.number_form.specs.declared.words.Words.{Words}
-use Rattle.number_form.specs.Forms.{InWords, Fit, LawfulForm, in_first, shifted, sign_of}
+use Rattle.number_form.specs.Forms.{Fit, LawfulForm, shifted, sign_of}
 use Rattle.number_form.specs.Plain.{plain}
 use Rattle.number_form.proofs.Shared.{in_first_fits, shifted_fits, sign_is}
 

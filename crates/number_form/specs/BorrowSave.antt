@@ -1,5 +1,5 @@
 -- The borrow-save form: the number is the first word less the second.
-use Rattle.std.specs.Prelude.{ℕ, ◌-◌, ◌*◌, ◌%◌, ◌^◌, true, ℤ, pos, ◌+ℤ◌, ◌-ℤ◌, ◌*ℤ◌, neg_ℤ}
+use Rattle.std.specs.Prelude.{ℕ, ◌-◌, ◌*◌, ◌%◌, ◌^◌, true, ℤ, pos, ◌-ℤ◌, ◌*ℤ◌, neg_ℤ}
 use Rattle.std.specs.Int.Bits.{bit_xor}
 use Rattle.arithmetic.specs.Residues.{word, reading, floored}
 use Rattle.number_form.specs.Forms.{FormModel, in_first, shifted, from_place, sign_of}

@@ -1,5 +1,5 @@
 -- The carry-save form: the number is the sum of the words.
-use Rattle.std.specs.Prelude.{ℕ, ◌*◌, ◌%◌, ◌^◌, true, ℤ, pos, ◌+ℤ◌, ◌*ℤ◌}
+use Rattle.std.specs.Prelude.{ℕ, ◌*◌, ◌%◌, ◌^◌, true, pos, ◌+ℤ◌, ◌*ℤ◌}
 use Rattle.std.specs.Int.Bits.{bit_and, bit_or, bit_xor}
 use Rattle.arithmetic.specs.Residues.{word, reading, floored}
 use Rattle.number_form.specs.Forms.{FormModel, in_first, shifted, from_place, sign_of}

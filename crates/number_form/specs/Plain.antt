@@ -1,8 +1,7 @@
 -- The plain form: the number in the first word, and 0 in the second.
-use Rattle.std.specs.Prelude.{ℕ, ◌^◌, eqb, ℤ, pos, ◌+ℤ◌, ◌*ℤ◌}
+use Rattle.std.specs.Prelude.{eqb, pos, ◌+ℤ◌, ◌*ℤ◌}
 use Rattle.arithmetic.specs.Residues.{word, signed, floored}
 use Rattle.number_form.specs.Forms.{FormModel, in_first, shifted, sign_of}
-use Rattle.number_form.specs.declared.words.Words.{Words}
 
 abbrev pub plain : FormModel
 plain =

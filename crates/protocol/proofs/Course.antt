@@ -1,23 +1,18 @@
 -- Where a job is after j of its digits, and what it tells there.
-use Rattle.std.proofs.Common.{◌≡◌, ℕ, zero, suc, ◌+◌, ◌-◌, ◌*◌, ◌/◌, ◌%◌, ◌^◌, ◌<◌, ◌≤◌, Bool, true, false, cond, ◌||◌, eqb, ltb, leb, ◌⊎◌, ℤ, pos, Some, None, Option, sym, refl, ap, ◌∙◌, subst, inl, inr, ⊎_elim, true≢false, arith, ltb-false, ltb-true, eqb-true, leb-false, leb-true}
-use mathlib.Core.Bool.{false≢true}
-use native.Mathlib.Nat.{mul-div-le}
+use Rattle.std.proofs.Common.{◌≡◌, ℕ, zero, suc, ◌+◌, ◌-◌, ◌*◌, ◌/◌, ◌%◌, ◌^◌, ◌<◌, ◌≤◌, Bool, true, false, cond, ltb, ◌⊎◌, Some, None, sym, refl, ap, ◌∙◌, subst, inl, inr, arith}
 use Rattle.std.proofs.lemmas.Bool.Decides.{nat_tests}
 use Rattle.arithmetic.specs.Estimates.{shortfall}
 use Rattle.number_form.specs.Forms.{FormModel, LawfulForm}
-use Rattle.selection.specs.declared.refusal.Refusal.{Refusal}
-use Rattle.selection.specs.declared.refusal.Refusal.TheVariants.{Width, Places, Range}
-use Rattle.selection.specs.Operands.{Sized, InRange, quarter, refusal}
+use Rattle.selection.specs.Operands.{Sized, InRange, quarter}
 use Rattle.selection.specs.Selectors.{SelectorModel, LawfulSelector}
 use Rattle.selection.specs.Selectors as selectors
 use Rattle.recurrence.specs.declared.registers.Registers.{Registers}
 use Rattle.recurrence.specs.declared.registers.Outcome.{Outcome}
-use Rattle.recurrence.specs.Recurrence.{State, begun, job_turned, turns, first_registers, made, left, partial_result, outcome, result_of, complete, quarter_outcome, worked}
+use Rattle.recurrence.specs.Recurrence.{State, begun, job_turned, turns, first_registers, made, left, partial_result, outcome, result_of, quarter_outcome, worked}
 use Rattle.recurrence.specs.Recurrence.State.{settled, running}
-use Rattle.recurrence.specs.Stages.{Kept, Stage}
-use Rattle.recurrence.proofs.Recurring.{bits_pos, bits_small, room}
+use Rattle.recurrence.specs.Stages.{Stage}
+use Rattle.recurrence.proofs.Recurring.{room}
 use Rattle.recurrence.proofs.Finishing.{kept_above}
-use Rattle.arithmetic.proofs.Cases.{clash}
 
 -- ---- jobs of the recurrence
 

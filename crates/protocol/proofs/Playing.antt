@@ -7,7 +7,7 @@ use Rattle.protocol.specs.declared.call.Play.{Play}
 use Rattle.protocol.specs.Operands.{Make}
 use Rattle.protocol.specs.Bank.{Bank, answer, after}
 use Rattle.protocol.specs.Promise.{bank_after, history}
-use Rattle.protocol.specs.Plays.{played, replied, onto, calls_of, as_play, InHistory, StandsInHistory}
+use Rattle.protocol.specs.Plays.{played, replied, onto, calls_of, as_play, StandsInHistory}
 
 -- the answers before place i, and what the calls from there on come to on the bank b, are what all come to on the bank at the start
 pub record Midway (m : Make) (start : Bank) (before : List Play) (i : ℕ) (now : List Play) (b : Bank) : Type 0 where

@@ -1,20 +1,18 @@
 -- A refused call leaves a bank as it was.
-use Rattle.std.proofs.Common.{◌≡◌, ℕ, Bool, true, false, cond, eqb, ltb, Some, None, Option, sym, refl, ap, ◌∙◌, true≢false, eqb-true}
+use Rattle.std.proofs.Common.{◌≡◌, ℕ, Bool, true, false, eqb, ltb, Some, None, Option, sym, refl, true≢false, eqb-true}
 use mathlib.Core.Path.{fun_ext}
 use Rattle.selection.specs.declared.refusal.Refusal.{Refusal as OperandRefusal}
 use Rattle.selection.specs.Operands as operands
 use Rattle.single.specs.declared.answer.Answer.{Answer}
 use Rattle.protocol.specs.declared.refusal.Refusal.{Refusal}
-use Rattle.protocol.specs.declared.call.Name.{Name}
 use Rattle.protocol.specs.declared.call.Request.{Request}
 use Rattle.protocol.specs.declared.call.Request.TheVariants.{Load, Load32, Step, Look, Collect, Give}
-use Rattle.protocol.specs.declared.call.Call.{Call}
 use Rattle.protocol.specs.declared.call.Call.TheVariants.{Tick, Take, Ask}
 use Rattle.protocol.specs.Operands.{Make, Operand}
 use Rattle.protocol.specs.Operands.Operand.{fixed}
 use Rattle.protocol.specs.History.{accepted}
 use Rattle.protocol.specs.Jobs.{Job, told}
-use Rattle.protocol.specs.Bank.{Lane, Bank, loading, collecting, serve, said, kept, replies, leaves, bars, at, answer, after}
+use Rattle.protocol.specs.Bank.{Lane, loading, collecting, serve, said, kept, replies, leaves, bars, at, after}
 use Rattle.protocol.specs.Bank.Lane.{free, held}
 use Rattle.protocol.specs.Promise.{RefusalsLeave}
 

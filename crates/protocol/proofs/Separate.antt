@@ -1,7 +1,6 @@
 -- What a hold is told depends on its own calls alone.
 use Rattle.std.proofs.Common.{◌≡◌, ℕ, ◌+◌, ◌<◌, ◌≤◌, Bool, true, false, cond, eqb, ltb, ◌≢◌, List, [], ◌∷◌, ◌++◌, Some, None, Option, sym, refl, ap, ◌∙◌, ap₂, arith, eqb-true}
 use mathlib.Core.Bool.{false≢true}
-use Rattle.std.proofs.lemmas.Bool.Decides.{nat_tests}
 use Rattle.arithmetic.proofs.Cases.{clash}
 use Rattle.protocol.specs.declared.refusal.Refusal.{Refusal}
 use Rattle.protocol.specs.declared.call.Name.{Name}
@@ -13,9 +12,9 @@ use Rattle.protocol.specs.declared.call.Reply.TheVariants.{Refused, Done, Took, 
 use Rattle.protocol.specs.Operands.{Make}
 use Rattle.protocol.specs.History.{same, History, gave, begins, Taken}
 use Rattle.protocol.specs.History.Taken.{now, before}
-use Rattle.protocol.specs.Bank.{Bank, new, answer, after, bars, expires}
+use Rattle.protocol.specs.Bank.{Bank, answer, after, bars, expires}
 use Rattle.protocol.specs.Promise.{concerns, names, own, told_to, calls, answers, bank_after, history}
-use Rattle.protocol.proofs.Views.{Track, track, evolve, tell, own_step, other_step, apart→false, both_true, view}
+use Rattle.protocol.proofs.Views.{Track, track, evolve, tell, own_step, other_step, apart→false, both_true}
 use Rattle.protocol.proofs.Views.View.{out}
 
 -- ---- the clock and the view, and the answers, by the own calls

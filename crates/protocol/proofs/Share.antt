@@ -1,5 +1,5 @@
 -- What any two holders share, from how a hold stands and from where its job is.
-use Rattle.std.proofs.Common.{◌≡◌, ℕ, ◌+◌, ◌-◌, ◌<◌, ◌≤◌, min, Bool, true, false, cond, ◌⊎◌, List, [], ◌∷◌, Some, None, Option, sym, refl, ap, ◌∙◌, subst, ap₂, inl, inr, ⊎_elim, true≢false, arith}
+use Rattle.std.proofs.Common.{◌≡◌, ℕ, ◌-◌, ◌<◌, ◌≤◌, min, Bool, true, false, List, [], ◌∷◌, Some, None, Option, sym, refl, ap, ◌∙◌, subst, ap₂, inl, inr, ⊎_elim, arith}
 use mathlib.Core.Bool.{false≢true}
 use Rattle.std.proofs.lemmas.Bool.{cases_lt}
 use Rattle.arithmetic.specs.Estimates.{shortfall}
@@ -7,7 +7,7 @@ use Rattle.selection.specs.declared.refusal.Refusal.{Refusal as OperandRefusal}
 use Rattle.selection.specs.Operands.{Contained}
 use Rattle.selection.specs.Operands as operands
 use Rattle.selection.specs.Selectors as selectors
-use Rattle.recurrence.specs.Root.{ReciprocalRoot, Exactness}
+use Rattle.recurrence.specs.Root.{Exactness}
 use Rattle.recurrence.specs.Recurrence.{turns, first_registers}
 use Rattle.recurrence.specs.Stages.{Digits, Stage}
 use Rattle.recurrence.proofs.Finishing.{root_unique}
@@ -37,7 +37,7 @@ use Rattle.protocol.proofs.Views.View.{out, within}
 use Rattle.protocol.proofs.Separate.{separate, undisturbed}
 use Rattle.protocol.proofs.Working.{Admitted, admits, Goes, goes, stages}
 use Rattle.protocol.proofs.Working.Admitted.{any}
-use Rattle.protocol.proofs.Standing.{event, LoadCases, load_inv, load_some, loads_own, Brought, JobFits, Stands, Matches, always}
+use Rattle.protocol.proofs.Standing.{event, LoadCases, load_inv, load_some, loads_own, JobFits, Stands, Matches, always}
 
 -- ---- what is right is determined
 

@@ -1,7 +1,6 @@
 -- How a hold stands in its lane, by its history.
-use Rattle.std.proofs.Common.{◌≡◌, ℕ, zero, suc, ◌+◌, ◌-◌, ◌≤◌, min, Bool, true, false, cond, ◌&&◌, eqb, ltb, leb, ◌⊎◌, List, [], ◌∷◌, Some, None, Option, sym, refl, ap, ◌∙◌, subst, inl, inr, ⊎_elim, true≢false, zero-add, arith}
+use Rattle.std.proofs.Common.{◌≡◌, ℕ, ◌+◌, ◌-◌, ◌≤◌, min, Bool, true, false, cond, ◌&&◌, eqb, ltb, leb, ◌⊎◌, List, [], ◌∷◌, Some, None, Option, sym, refl, ap, ◌∙◌, subst, inl, inr, true≢false, zero-add, arith}
 use mathlib.Core.Bool.{false≢true}
-use Rattle.std.proofs.lemmas.Bool.Decides.{nat_tests}
 use Rattle.selection.specs.declared.refusal.Refusal.{Refusal as OperandRefusal}
 use Rattle.selection.specs.Operands as operands
 use Rattle.single.specs.declared.mode.Mode.{Mode}
@@ -15,7 +14,7 @@ use Rattle.protocol.specs.declared.call.Request.TheVariants.{Load, Load32, Step,
 use Rattle.protocol.specs.declared.call.Call.{Call}
 use Rattle.protocol.specs.declared.call.Call.TheVariants.{Tick, Take, Ask}
 use Rattle.protocol.specs.declared.call.Reply.{Reply}
-use Rattle.protocol.specs.declared.call.Reply.TheVariants.{Refused, Done, Took, Stepped, Shown, Told}
+use Rattle.protocol.specs.declared.call.Reply.TheVariants.{Refused, Done, Stepped, Told}
 use Rattle.protocol.specs.Operands.{Make, Lawful, Operand, digits}
 use Rattle.protocol.specs.Operands.Operand.{fixed, single}
 use Rattle.protocol.specs.History.{same, accepted, Event, History, sets, clock, begins, lease, is_last, ends, operand_of, loads, count_of, steps, InForce, Loaded}
@@ -26,8 +25,8 @@ use Rattle.protocol.specs.Bank.{Bank, Served, serve, said, loading, collecting, 
 use Rattle.protocol.specs.Promise.{concerns, bank_after, history}
 use Rattle.protocol.proofs.Views.{View, track, evolve, own_step, other_step, same→≡, same_self, reply, asked, expired, kept_view, view}
 use Rattle.protocol.proofs.Views.View.{out, within}
-use Rattle.protocol.proofs.Separate.{Gives, gives, next_grows, gives_next}
-use Rattle.protocol.proofs.Working.{Admitted, admits, Goes, goes, turns_add}
+use Rattle.protocol.proofs.Separate.{next_grows, gives_next}
+use Rattle.protocol.proofs.Working.{Admitted, admits, goes, turns_add}
 use Rattle.protocol.proofs.Working.Admitted.{any}
 
 -- ---- what one more event says

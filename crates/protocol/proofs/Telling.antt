@@ -1,5 +1,5 @@
 -- How the story of the slow job goes, from what any two holders share.
-use Rattle.std.proofs.Common.{◌≡◌, ℕ, zero, suc, ◌/◌, ◌≤◌, ◌⊎◌, sym, refl, ap, inl, inr, arith}
+use Rattle.std.proofs.Common.{◌≡◌, ◌≤◌, ◌⊎◌, refl, ap, inl, inr, arith}
 use Rattle.protocol.specs.declared.call.Name.{Name}
 use Rattle.protocol.specs.declared.call.Request.TheVariants.{Give}
 use Rattle.protocol.specs.Operands.{Make, Lawful, digits}
@@ -8,7 +8,7 @@ use Rattle.protocol.specs.History.InForce.{taken, lasts}
 use Rattle.protocol.specs.History.Loaded.{loaded, since}
 use Rattle.protocol.specs.History.Taken.{now, before}
 use Rattle.protocol.specs.Promise.{history, HoldersShare}
-use Rattle.protocol.specs.Story.{slow, next, operand, at_work, handed_over, cleaned_up, worked_off, GoesWell, GoesWellEverywhere}
+use Rattle.protocol.specs.Story.{slow, next, operand, at_work, handed_over, worked_off, GoesWellEverywhere}
 use Rattle.protocol.proofs.Share.{holders_share}
 
 slow_in_force : (m : Make) → InForce slow 5 (history m at_work)

@@ -1,5 +1,5 @@
 -- What a hold finds in its lane, and how a call changes that.
-use Rattle.std.proofs.Common.{◌≡◌, ℕ, ◌+◌, ◌^◌, Bool, true, false, cond, ◌&&◌, ◌||◌, eqb, ltb, leb, ◌⊎◌, Some, None, Option, sym, refl, ap, ◌∙◌, subst, inl, inr, ⊎_elim, true≢false, arith, eqb-true}
+use Rattle.std.proofs.Common.{◌≡◌, ℕ, ◌+◌, ◌^◌, Bool, true, false, cond, ◌&&◌, ◌||◌, eqb, ltb, leb, ◌⊎◌, Some, None, Option, sym, refl, ap, subst, inl, inr, ⊎_elim, true≢false, arith, eqb-true}
 use mathlib.Core.Bool.{false≢true}
 use Rattle.std.proofs.lemmas.Bool.Decides.{nat_tests as tells}
 use Rattle.arithmetic.proofs.Cases.{clash}
@@ -12,9 +12,9 @@ use Rattle.protocol.specs.declared.call.Call.TheVariants.{Tick, Take, Ask}
 use Rattle.protocol.specs.declared.call.Reply.{Reply}
 use Rattle.protocol.specs.declared.call.Reply.TheVariants.{Refused, Done, Took}
 use Rattle.protocol.specs.Operands.{Make}
-use Rattle.protocol.specs.History.{same, gave}
+use Rattle.protocol.specs.History.{same}
 use Rattle.protocol.specs.Jobs.{Job}
-use Rattle.protocol.specs.Bank.{Lane, Bank, Served, serve, said, kept, replies, leaves, expires, is_held, bars, taking, taken, put, at, answer, after}
+use Rattle.protocol.specs.Bank.{Lane, Bank, Served, serve, said, kept, replies, leaves, expires, is_held, bars, put, answer, after}
 use Rattle.protocol.specs.Bank.Lane.{free, held}
 use Rattle.protocol.specs.Bank.Served.{stopped, goes_on, frees}
 use Rattle.protocol.specs.Promise.{concerns}

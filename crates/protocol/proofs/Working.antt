@@ -1,10 +1,9 @@
 -- Where a lane's job is after j digits of the operand that was loaded, and what it tells there.
-use Rattle.std.proofs.Common.{◌≡◌, ℕ, zero, suc, ◌+◌, ◌-◌, ◌*◌, ◌%◌, ◌^◌, ◌<◌, ◌≤◌, Bool, true, false, cond, not, ◌||◌, eqb, ltb, leb, ℤ, pos, Some, None, Option, sym, refl, ap, ◌∙◌, subst, true≢false, arith}
+use Rattle.std.proofs.Common.{◌≡◌, ℕ, zero, suc, ◌+◌, ◌-◌, ◌%◌, ◌^◌, ◌<◌, ◌≤◌, Bool, true, false, cond, not, ◌||◌, eqb, ltb, leb, ℤ, pos, Some, None, sym, refl, ap, ◌∙◌, subst, true≢false, arith}
 use Rattle.std.proofs.lemmas.Bool.Decides.{nat_tests}
 use Rattle.arithmetic.specs.Estimates.{shortfall}
-use Rattle.selection.specs.declared.refusal.Refusal.{Refusal}
 use Rattle.selection.specs.declared.refusal.Refusal.TheVariants.{Width, Places, Range}
-use Rattle.selection.specs.Operands.{Sized, InRange, quarter, refusal}
+use Rattle.selection.specs.Operands.{Sized, InRange, refusal}
 use Rattle.selection.specs.Selectors as selectors
 use Rattle.recurrence.specs.Recurrence.{State, worked}
 use Rattle.recurrence.specs.Recurrence as recurrence
@@ -14,7 +13,6 @@ use Rattle.single.specs.declared.mode.Mode.{Mode}
 use Rattle.single.specs.declared.answer.Answer.{Answer}
 use Rattle.single.specs.declared.special.Special.TheVariants.{NotANumber, Zero, PlusInfinity, Negative}
 use Rattle.single.specs.Words.{exponent, fraction, infinity, is_nan, is_negative, reads_as_zero}
-use Rattle.single.specs.Rsqrt.{Rsqrt}
 use Rattle.single.specs.Readings.{Reading, reading, reach, special_answer}
 use Rattle.single.specs.Readings as readings
 use Rattle.single.specs.Readings.Reading.{special, positive}
@@ -26,7 +24,7 @@ use Rattle.protocol.specs.Operands.Operand.{fixed as fixed_operand, single as si
 use Rattle.protocol.specs.Operands.Right.{root, rounded}
 use Rattle.protocol.specs.Jobs.{Job, begun, begun_read, turned, turns, made, left, partial, told}
 use Rattle.protocol.specs.Jobs.Job.{settled, fixed, single}
-use Rattle.protocol.proofs.Course.{states, length, OnCourse, on_course}
+use Rattle.protocol.proofs.Course.{states, OnCourse, on_course}
 
 -- ---- turns of a lane's job are turns of the recurrence
 

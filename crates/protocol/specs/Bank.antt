@@ -5,7 +5,6 @@ use Rattle.selection.specs.Operands as operands
 use Rattle.single.specs.declared.answer.Answer.{Answer}
 use Rattle.protocol.specs.declared.refusal.Refusal.{Refusal}
 use Rattle.protocol.specs.declared.refusal.Refusal.TheVariants.{Operand as BadOperand, NoSuchLane, LaneHeld, Ticks, SerialsUsedUp, NotInForce, AlreadyLoaded, NoJob, DigitsLeft, BelowClock}
-use Rattle.protocol.specs.declared.call.Name.{Name}
 use Rattle.protocol.specs.declared.call.Request.{Request}
 use Rattle.protocol.specs.declared.call.Request.TheVariants.{Load, Load32, Step, Look, Collect, Give}
 use Rattle.protocol.specs.declared.call.Call.{Call}

@@ -1,14 +1,12 @@
 -- What is left after a number or a record is a last part of the bytes.
 use Rattle.std.proofs.Common.{◌≡◌, ℕ, zero, suc, ◌+◌, ◌-◌, ◌*◌, ◌^◌, ◌<◌, ◌≤◌, Bool, true, false, cond, eqb, ltb, List, [], ◌∷◌, length, take, drop, Ok, Err, Result, sym, refl, ap, ◌∙◌, subst, arith, length-drop, ltb-false}
 use Rattle.std.proofs.lemmas.List.{take_rest, drop-drop}
-use Rattle.arithmetic.proofs.Cases.{clash}
-use Rattle.seven_bit.specs.declared.fault.NumberFault.{NumberFault}
 use Rattle.seven_bit.specs.declared.fault.NumberFault.TheVariants.{Malformed, Cut as NumberCut}
 use Rattle.seven_bit.specs.Numbers.{Read, after_group, number_of, number_at}
 use Rattle.protocol.specs.declared.call.Name.{Name}
 use Rattle.records.specs.declared.defect.Defect.{Defect}
 use Rattle.records.specs.declared.defect.Defect.TheVariants.{Unknown, Wrong, Cut}
-use Rattle.records.specs.Records.{Item, label_length, Got, in_record, numbered, then, named, then_named, labelled, note_at, take_at, load_at, request_at, body_at, record_at}
+use Rattle.records.specs.Records.{Item, label_length, Got, in_record, numbered, then, named, then_named, labelled, load_at, request_at, body_at, record_at}
 use Rattle.records.specs.Records.Item.{note}
 use Rattle.records.specs.Reading.{placed}
 

@@ -1,8 +1,8 @@
 -- What a job comes to is the largest f with X * (f / 2 ^ Q) ^ 2 at most 1, and nothing else is.
-use Rattle.std.proofs.Common.{◌≡◌, ℕ, zero, suc, ◌+◌, ◌-◌, ◌*◌, ◌/◌, ◌%◌, ◌^◌, ◌<◌, ◌≤◌, Bool, true, false, cond, eqb, ◌⊎◌, ℤ, pos, negsuc, sym, refl, ap, ◌∙◌, subst, inl, inr, ⊎_elim, mul-le-mul_right, mul-le-mul, mul-le-mul_left, arith, pow_pos, pow_mono, pow-add, eqb-true}
+use Rattle.std.proofs.Common.{◌≡◌, ℕ, zero, suc, ◌+◌, ◌-◌, ◌*◌, ◌/◌, ◌%◌, ◌^◌, ◌<◌, ◌≤◌, Bool, true, false, cond, ◌⊎◌, ℤ, pos, negsuc, sym, refl, ap, ◌∙◌, subst, inl, inr, ⊎_elim, mul-le-mul_right, mul-le-mul, mul-le-mul_left, arith, pow_pos, pow_mono, pow-add, eqb-true}
 use borrow.Author.Differences.{ints, up, down}
 use borrow.Author.Tests.{eqb-false}
-use Rattle.std.proofs.lemmas.Bool.{cases_lt, cases_eq}
+use Rattle.std.proofs.lemmas.Bool.{cases_lt}
 use Rattle.arithmetic.proofs.Cases.{clash}
 use Rattle.arithmetic.specs.Estimates.{shortfall}
 use Rattle.arithmetic.proofs.Squares.{square, factor}

@@ -1,5 +1,5 @@
 -- Sizes of what a digit and a factor make at a place.
-use Rattle.std.proofs.Common.{◌≡◌, ℕ, zero, suc, ◌+◌, ◌*◌, ◌^◌, ◌<◌, ◌≤◌, ℤ, pos, negsuc, ◌*ℤ◌, neg_ℤ, nat_abs, refl, mul-le-mul_right, mul-le-mul, arith, pow_mono}
+use Rattle.std.proofs.Common.{◌≡◌, ℕ, zero, suc, ◌*◌, ◌^◌, ◌≤◌, ℤ, pos, negsuc, ◌*ℤ◌, neg_ℤ, nat_abs, refl, mul-le-mul_right, mul-le-mul, arith, pow_mono}
 
 -- a number at a place of at most 28
 pub placed : (n m p : ℕ) → n ≤ m → p ≤ 28 → n * 2 ^ p ≤ m * 2 ^ 28

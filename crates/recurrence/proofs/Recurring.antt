@@ -1,5 +1,5 @@
 -- The registers keep their meaning, digit by digit.
-use Rattle.std.proofs.Common.{◌≡◌, ℕ, zero, suc, ◌+◌, ◌-◌, ◌*◌, ◌/◌, ◌%◌, ◌^◌, ◌<◌, ◌≤◌, false, cond, ltb, [], ◌∷◌, length, ℤ, pos, negsuc, ◌+ℤ◌, ◌-ℤ◌, ◌*ℤ◌, neg_ℤ, nat_abs, ◌≤ℤ◌, ◌<ℤ◌, sym, refl, ap, ◌∙◌, subst, ap₂, mul-le-mul_right, mul_assoc, mul-le-mul, mul-le-mul_left, mul-zero, div-add-mod', arith, pow_pos, pow_mono, pow-add}
+use Rattle.std.proofs.Common.{◌≡◌, ℕ, zero, suc, ◌+◌, ◌-◌, ◌*◌, ◌/◌, ◌%◌, ◌^◌, ◌<◌, ◌≤◌, false, cond, ltb, [], ◌∷◌, length, ℤ, pos, negsuc, ◌+ℤ◌, ◌-ℤ◌, ◌*ℤ◌, neg_ℤ, nat_abs, sym, refl, ap, ◌∙◌, subst, ap₂, mul-le-mul_right, mul_assoc, mul-le-mul, mul-le-mul_left, mul-zero, div-add-mod', arith, pow_pos, pow_mono, pow-add}
 use native.Mathlib.Nat.{mul-div-le, mul-mod_left}
 use lib.IntN.{*ℤ_comm}
 use borrow.Author.Differences.{ints}
@@ -18,7 +18,7 @@ use Rattle.selection.proofs.Range.{whole, Plain, plain, split, next_place, next_
 use Rattle.recurrence.specs.declared.registers.Registers.{Registers}
 use Rattle.recurrence.specs.declared.registers.Partial.{Partial}
 use Rattle.recurrence.specs.Recurrence.{first_residual, first_product, first_partial, first_registers, chosen_from, terms, reduced, appended, next_s, turned, turned_by, complete, turns}
-use Rattle.recurrence.specs.Stages.{Means, Selected, summed, Digits, Stage, Kept}
+use Rattle.recurrence.specs.Stages.{Means, Selected, Digits, Stage, Kept}
 use Rattle.recurrence.specs.Stages.EachSelected.{none, next as EachNext}
 use Rattle.recurrence.proofs.Products.{digit_times}
 use Rattle.recurrence.proofs.Starting.{halves_least}

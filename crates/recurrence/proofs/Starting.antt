@@ -1,5 +1,5 @@
 -- Sizes at a job's start.
-use Rattle.std.proofs.Common.{◌≡◌, ℕ, ◌+◌, ◌-◌, ◌*◌, ◌^◌, ◌<◌, ◌≤◌, ap, ◌∙◌, mul-le-mul_right, mul-le-mul, arith, pow_pos, pow_mono, pow-add}
+use Rattle.std.proofs.Common.{◌≡◌, ℕ, ◌+◌, ◌-◌, ◌*◌, ◌^◌, ◌<◌, ◌≤◌, ap, ◌∙◌, mul-le-mul_right, mul-le-mul, arith, pow_mono, pow-add}
 use Rattle.selection.specs.declared.start.Start.{Start}
 use Rattle.selection.specs.declared.start.Start.TheVariants.{One, ThreeHalves, Two}
 use Rattle.selection.specs.Starts.{halves}

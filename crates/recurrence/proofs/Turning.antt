@@ -1,5 +1,5 @@
 -- A turn is what its parts make of the registers.
-use Rattle.std.proofs.Common.{◌≡◌, ℕ, ◌+◌, ◌-◌, ◌*◌, ◌^◌, ◌≤◌, false, cond, ℤ, pos, Some, None, Option}
+use Rattle.std.proofs.Common.{◌≡◌, ℕ, ◌+◌, ◌-◌, ◌*◌, ◌^◌, false, cond, ℤ, pos, Some, None, Option}
 use Rattle.number_form.specs.declared.words.Words.{Words}
 use Rattle.number_form.specs.Forms.{FormModel}
 use Rattle.selection.specs.Selectors.{SelectorModel}
@@ -7,7 +7,7 @@ use Rattle.recurrence.specs.declared.registers.Registers.{Registers}
 use Rattle.recurrence.specs.declared.registers.Partial.{Partial}
 use Rattle.recurrence.specs.declared.registers.Choice.{Choice}
 use Rattle.recurrence.specs.declared.registers.Terms.{Terms}
-use Rattle.recurrence.specs.Recurrence.{chosen_from, chosen, terms, reduced_by, appended, complete, turned, turned_by}
+use Rattle.recurrence.specs.Recurrence.{chosen_from, chosen, terms, reduced_by, appended, complete, turned}
 
 -- primed names are what the code passes on, a value by way of its bits
 pub assembled :

@@ -5,7 +5,7 @@ use Rattle.number_form.specs.declared.sign.Sign.TheVariants.{Negative, NotNegati
 use Rattle.number_form.specs.Forms.{FormModel}
 use Rattle.selection.specs.Operands.{quarter}
 use Rattle.selection.specs.Starts.{halves}
-use Rattle.selection.specs.Selectors.{SelectorModel, radix, started}
+use Rattle.selection.specs.Selectors.{SelectorModel, radix}
 use Rattle.selection.specs.declared.start.Start.{Start}
 use Rattle.recurrence.specs.declared.registers.Registers.{Registers}
 use Rattle.recurrence.specs.declared.registers.Partial.{Partial}

@@ -1,5 +1,5 @@
 -- What a job's registers mean after j digits, for every lawful selector over every lawful form.
-use Rattle.std.specs.Prelude.{◌≡◌, ℕ, suc, ◌+◌, ◌-◌, ◌*◌, ◌^◌, ◌<◌, ◌≤◌, List, [], ◌∷◌, length, ℤ, pos, ◌+ℤ◌, ◌*ℤ◌, neg_ℤ, ◌≤ℤ◌}
+use Rattle.std.specs.Prelude.{◌≡◌, ℕ, suc, ◌+◌, ◌-◌, ◌*◌, ◌^◌, ◌≤◌, List, [], ◌∷◌, length, ℤ, pos, ◌+ℤ◌, ◌*ℤ◌, neg_ℤ, ◌≤ℤ◌}
 use Rattle.arithmetic.specs.Residues.{Congruent, InSigned}
 use Rattle.arithmetic.specs.Estimates.{Estimates}
 use Rattle.number_form.specs.declared.words.Words.{Words}
@@ -7,7 +7,7 @@ use Rattle.number_form.specs.Forms.{FormModel, Fit}
 use Rattle.selection.specs.Operands.{Contained}
 use Rattle.selection.specs.Selectors.{SelectorModel, radix, digits, started, Residual}
 use Rattle.recurrence.specs.declared.registers.Registers.{Registers}
-use Rattle.recurrence.specs.Recurrence.{chosen, turns, first_registers}
+use Rattle.recurrence.specs.Recurrence.{turns, first_registers}
 
 -- Words that the form may hold mean n: modulo 2 ^ 64, and n is their signed reading.
 pub record Means (F : FormModel) (u : Words) (n : ℤ) : Type 0 where

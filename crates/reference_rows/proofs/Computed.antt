@@ -1,5 +1,4 @@
 -- The reference jobs, by computation.
-use Prim.Native.Nat.{ℕ, ◌^◌, ◌≤◌, ◌<◌}
 use mathlib.Core.Path.{◌≡◌, refl, subst}
 use lib.Dec.{lit≤, lit<}
 use Rattle.number_form.specs.Plain.{plain}

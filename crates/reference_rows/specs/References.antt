@@ -1,12 +1,11 @@
 -- The reference jobs, and what is established of them: by the definition of the result and by the recurrence.
-use Rattle.std.specs.Prelude.{ℕ, zero, suc, ◌≡◌, true, false, cond, List, [], ◌∷◌, ◌++◌, ℤ, pos, negsuc}
+use Rattle.std.specs.Prelude.{ℕ, zero, suc, ◌≡◌, true, false, cond, List, [], ◌∷◌, ℤ, pos, negsuc}
 use Rattle.number_form.specs.Forms.{FormModel}
 use Rattle.number_form.specs.Plain.{plain}
 use Rattle.selection.specs.Selectors.{SelectorModel, digits}
 use Rattle.selection.specs.Radix2.{radix_2}
 use Rattle.selection.specs.Radix4.{radix_4}
 use Rattle.recurrence.specs.declared.registers.Registers.{Registers}
-use Rattle.recurrence.specs.declared.registers.Outcome.{Outcome}
 use Rattle.recurrence.specs.Recurrence.{chosen, turned, turns, first_registers, worked}
 use Rattle.recurrence.specs.Root.{ReciprocalRoot}
 use Rattle.single.specs.declared.mode.Mode.TheVariants.{Nearest, Up}

@@ -1,5 +1,5 @@
 -- One digit of radix 2 keeps the containment bound, at the scale of the last digit: S = s / 2 ^ j.
-use Rattle.std.proofs.Common.{◌≡◌, ℕ, zero, suc, ◌+◌, ◌-◌, ◌*◌, ◌^◌, ◌<◌, ◌≤◌, Bool, true, false, cond, ℤ, pos, negsuc, ◌+ℤ◌, ◌-ℤ◌, ◌*ℤ◌, ◌≤ℤ◌, ◌<ℤ◌, sym, refl, ap, ◌∙◌, subst, mul-le-mul_right, mul-le-mul, mul-le-mul_left, mul-pos, pow-suc, arith, pow_pos}
+use Rattle.std.proofs.Common.{◌≡◌, ℕ, zero, suc, ◌+◌, ◌-◌, ◌*◌, ◌^◌, ◌<◌, ◌≤◌, Bool, true, false, cond, ℤ, pos, negsuc, ◌+ℤ◌, ◌-ℤ◌, ◌*ℤ◌, ◌≤ℤ◌, ◌<ℤ◌, refl, mul-le-mul_right, mul-le-mul, mul-le-mul_left, mul-pos, pow-suc, arith, pow_pos}
 use lib.Signed.{le_z}
 use borrow.Author.Differences.{ints, le_out, lt_out}
 use Rattle.arithmetic.proofs.Ring.{add_*ℤ}

@@ -1,5 +1,5 @@
 -- One digit of radix 4, from the second on, keeps the containment bound, at the scale of the last digit: S = s / 4 ^ j.
-use Rattle.std.proofs.Common.{◌≡◌, ℕ, zero, suc, ◌+◌, ◌-◌, ◌*◌, ◌/◌, ◌^◌, ◌<◌, ◌≤◌, Bool, true, false, cond, ℤ, pos, negsuc, ◌+ℤ◌, ◌-ℤ◌, ◌*ℤ◌, neg_ℤ, ◌≤ℤ◌, ◌<ℤ◌, refl, mul-le-mul_right, mul-le-mul, mul-le-mul_left, pow-suc, arith, lit≤}
+use Rattle.std.proofs.Common.{◌≡◌, ℕ, zero, suc, ◌+◌, ◌-◌, ◌*◌, ◌^◌, ◌<◌, ◌≤◌, Bool, true, false, cond, ℤ, pos, negsuc, ◌+ℤ◌, ◌-ℤ◌, ◌*ℤ◌, ◌≤ℤ◌, ◌<ℤ◌, refl, mul-le-mul_right, mul-le-mul, mul-le-mul_left, pow-suc, arith, lit≤}
 use native.Mathlib.Nat.{le_dest, one-le-pow}
 use lib.Signed.{le_z}
 use borrow.Author.Differences.{ints, up, down}

@@ -1,10 +1,10 @@
 -- A number is read exactly where its shortest form stands.
-use Rattle.std.proofs.Common.{◌≡◌, ℕ, zero, suc, ◌+◌, ◌-◌, ◌*◌, ◌/◌, ◌%◌, ◌^◌, ◌<◌, ◌≤◌, Bool, true, false, cond, eqb, ltb, List, [], ◌∷◌, ◌++◌, length, get_or, Ok, Err, Result, sym, refl, ap, ◌∙◌, subst, ⊎_elim, arith, ltb-false, ltb-true, le-ltb, lt-ltb, ne_eqb}
+use Rattle.std.proofs.Common.{◌≡◌, ℕ, zero, suc, ◌+◌, ◌-◌, ◌*◌, ◌/◌, ◌%◌, ◌^◌, ◌<◌, ◌≤◌, Bool, true, false, cond, eqb, ltb, List, [], ◌∷◌, ◌++◌, Ok, Err, sym, refl, ap, ◌∙◌, ⊎_elim, arith, ltb-false, ltb-true, le-ltb, lt-ltb, ne_eqb}
 use borrow.Author.Tests.{eqb-false}
 use Rattle.std.proofs.lemmas.Bool.{cases_lt}
 use Rattle.seven_bit.specs.declared.fault.NumberFault.{NumberFault}
 use Rattle.seven_bit.specs.declared.fault.NumberFault.TheVariants.{Malformed, Cut}
-use Rattle.seven_bit.specs.Numbers.{groups, encoded, Read, after_group, number_of, number_at, Bytes, ShortestRead}
+use Rattle.seven_bit.specs.Numbers.{groups, Read, after_group, number_of, Bytes, ShortestRead}
 
 never : (e : NumberFault) (v : ℕ) (ys : List ℕ) → ◌≡◌ {A = Read} (Err e) (Ok (v, ys)) → ⊥
 never e v ys p = let z : ◌≡◌ {A = ℕ} 0 1 = cc in omega arith

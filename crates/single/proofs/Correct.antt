@@ -1,12 +1,11 @@
 -- What a single comes to is right.
-use Rattle.std.proofs.Common.{◌≡◌, ℕ, ◌+◌, ◌*◌, ◌/◌, ◌%◌, ◌^◌, ◌<◌, ◌≤◌, Bool, true, false, cond, eqb, leb, ◌≢◌, pos, sym, refl, ap, ◌∙◌, subst, arith, eqb-true, leb-false, leb-true}
+use Rattle.std.proofs.Common.{◌≡◌, ℕ, ◌+◌, ◌^◌, ◌<◌, Bool, true, false, cond, eqb, leb, ◌≢◌, pos, sym, refl, subst, arith, eqb-true, leb-false, leb-true}
 use borrow.Author.Tests.{eqb-false}
 use Rattle.std.proofs.lemmas.Bool.Decides.{nat_tests}
 use Rattle.arithmetic.specs.Estimates.{shortfall}
 use Rattle.number_form.specs.Forms.{FormModel, LawfulForm}
 use Rattle.selection.specs.Operands.{Sized, InRange, quarter}
 use Rattle.selection.specs.Selectors.{SelectorModel, LawfulSelector, digits}
-use Rattle.recurrence.specs.declared.registers.Outcome.{Outcome}
 use Rattle.recurrence.specs.Recurrence.{quarter_outcome, worked, result_of, turns, first_registers}
 use Rattle.recurrence.specs.Root.{ReciprocalRoot, Exactness}
 use Rattle.recurrence.proofs.Finishing.{worked_root, worked_exactness}
@@ -16,7 +15,7 @@ use Rattle.single.specs.declared.special.Special.TheVariants.{NotANumber, Zero, 
 use Rattle.single.specs.Words.{exponent, fraction, infinity, is_nan, is_negative, reads_as_zero}
 use Rattle.single.specs.Rsqrt.{Rsqrt}
 use Rattle.single.specs.Rsqrt.Rsqrt.{quiet_nan, signalling_nan, plus_zero, minus_zero, plus_infinity, negative}
-use Rattle.single.specs.Readings.{Reading, reading, special_answer, rounded, told}
+use Rattle.single.specs.Readings.{reading, special_answer, rounded, told}
 use Rattle.single.specs.Readings.Reading.{special, positive}
 use Rattle.single.proofs.Rounding.{job_number, number_low, number_high, worked_right, quarter_right}
 

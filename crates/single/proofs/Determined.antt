@@ -1,5 +1,5 @@
 -- One word and one set of marks are right for a single: the relation determines them.
-use Rattle.std.proofs.Common.{◌≡◌, ℕ, ◌+◌, ◌*◌, ◌^◌, ◌<◌, ◌≤◌, Bool, true, false, cond, eqb, leb, ◌≢◌, ◌⊎◌, pos, sym, refl, ap, ◌∙◌, subst, inl, inr, ⊎_elim, arith}
+use Rattle.std.proofs.Common.{◌≡◌, ℕ, ◌+◌, ◌*◌, ◌^◌, ◌<◌, ◌≤◌, true, false, eqb, leb, ◌≢◌, ◌⊎◌, pos, sym, refl, ap, ◌∙◌, subst, inl, inr, ⊎_elim, arith}
 use Rattle.std.proofs.lemmas.Bool.{cases_order}
 use Rattle.std.proofs.lemmas.Bool.Decides.{nat_tests}
 use Rattle.arithmetic.proofs.Cases.{clash}
@@ -9,11 +9,11 @@ use Rattle.single.specs.declared.marks.Marks.{Marks}
 use Rattle.single.specs.declared.answer.Answer.{Answer}
 use Rattle.single.specs.declared.special.Special.{Special}
 use Rattle.single.specs.declared.special.Special.TheVariants.{NotANumber, Zero, PlusInfinity, Negative}
-use Rattle.single.specs.MarkSets.{no_marks, inexact_mark, invalid_mark, division_mark}
+use Rattle.single.specs.MarkSets.{no_marks, inexact_mark}
 use Rattle.single.specs.Words.{exponent, fraction, units, infinity, is_nan, is_negative, reads_as_zero}
 use Rattle.single.specs.Rsqrt.{Closest, Rounded, Rsqrt}
 use Rattle.single.specs.Rsqrt.Rsqrt.{quiet_nan, signalling_nan, plus_zero, minus_zero, plus_infinity, negative, exact, inexact}
-use Rattle.single.specs.Readings.{Reading, reading, special_answer}
+use Rattle.single.specs.Readings.{reading, special_answer}
 use Rattle.single.specs.Readings.Reading.{special, positive}
 use Rattle.single.proofs.Spacing.{units_once}
 

@@ -1,5 +1,5 @@
 -- The operation rSqrt of IEEE 754, with subnormal operands read as zeros: the correctly rounded reciprocal square root of a single.
-use Rattle.std.specs.Prelude.{◌≡◌, ℕ, ◌+◌, ◌*◌, ◌^◌, ◌<◌, ◌≤◌, Bool, true, false, ◌≢◌}
+use Rattle.std.specs.Prelude.{◌≡◌, ℕ, ◌+◌, ◌*◌, ◌^◌, ◌<◌, ◌≤◌, true, false, ◌≢◌}
 use Rattle.single.specs.declared.mode.Mode.{Mode}
 use Rattle.single.specs.declared.mode.Mode.TheVariants.{Nearest, TowardZero, Up, Down}
 use Rattle.single.specs.declared.marks.Marks.{Marks}

@@ -1,5 +1,5 @@
 -- A run midway: what is done, and what is to come.
-use Rattle.std.proofs.Common.{◌≡◌, ℕ, zero, suc, ◌+◌, ◌-◌, ◌<◌, ◌≤◌, List, [], ◌∷◌, ◌++◌, length, take, drop, Option, sym, refl, ap, ◌∙◌, subst, append_assoc, append-nil, arith, length-take}
+use Rattle.std.proofs.Common.{◌≡◌, ℕ, zero, suc, ◌+◌, ◌-◌, ◌<◌, ◌≤◌, List, [], ◌∷◌, ◌++◌, length, Option, sym, refl, ap, ◌∙◌, subst, append_assoc, append-nil, arith, length-take}
 use Rattle.control.specs.declared.control.Control.{Control}
 use Rattle.protocol.specs.Operands.{Make}
 use Rattle.protocol.specs.Bank.{Bank}
@@ -8,7 +8,6 @@ use Rattle.stream.specs.declared.run.Report.{Report}
 use Rattle.stream.specs.Answers.{bytes, Writes}
 use Rattle.stream.specs.Entries.{Entry, numbers, written, bank_then, control_then}
 use Rattle.stream.specs.Runs.{Next, next_turn, Goes_on, Ended, Course, before, onward, course, whole, Ran}
-use Rattle.stream.specs.Runs.Next.{goes_on, ends}
 use Rattle.stream.proofs.Written.{wrote_then}
 use Rattle.stream.proofs.Honest.{in_history}
 

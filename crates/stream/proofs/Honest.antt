@@ -1,19 +1,15 @@
 -- The calls of a run, with their answers, stand in the history of its bank.
-use Rattle.std.proofs.Common.{◌≡◌, ℕ, zero, suc, ◌-◌, Bool, true, false, cond, ltb, leb, List, [], ◌∷◌, length, drop, Some, None, Ok, Err, Option, Result, sym, refl, ap, ◌∙◌, ap₂}
+use Rattle.std.proofs.Common.{◌≡◌, ℕ, zero, suc, ◌-◌, Bool, true, false, cond, ltb, leb, List, [], ◌∷◌, length, drop, Some, Ok, Err, Result, sym, refl, ap, ◌∙◌, ap₂}
 use Rattle.single.specs.declared.mode.Mode.{Mode}
 use Rattle.single.specs.declared.mode.ModeRefusal.{ModeRefusal}
 use Rattle.single.specs.Modes.{mode_of}
 use Rattle.control.specs.declared.control.Control.{Control}
-use Rattle.protocol.specs.declared.call.Name.{Name}
-use Rattle.protocol.specs.declared.call.Call.{Call}
 use Rattle.protocol.specs.declared.call.Reply.{Reply}
 use Rattle.protocol.specs.declared.call.Play.{Play}
 use Rattle.protocol.specs.Operands.{Make}
-use Rattle.protocol.specs.Bank.{Bank, answer, after}
+use Rattle.protocol.specs.Bank.{Bank, answer}
 use Rattle.protocol.specs.Plays.{played, replied, StandsInHistory}
 use Rattle.protocol.proofs.Playing.{stands_in_history}
-use Rattle.records.specs.declared.fault.Fault.TheVariants.{NoRoom}
-use Rattle.records.specs.declared.fault.Placed.{Placed}
 use Rattle.records.specs.Records.{Item, Got, record_at}
 use Rattle.records.specs.Records.Item.{note, call, collect, marks}
 use Rattle.stream.specs.Answers.{bytes}

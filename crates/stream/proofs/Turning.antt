@@ -1,15 +1,15 @@
 -- One record of a run.
-use Rattle.std.proofs.Common.{◌≡◌, ℕ, ◌-◌, ◌<◌, ◌≤◌, Bool, true, false, cond, ltb, leb, List, [], ◌∷◌, length, drop, Some, None, Ok, Err, sym, refl, ap, ◌∙◌, subst, arith, length-drop}
+use Rattle.std.proofs.Common.{◌≡◌, ℕ, ◌<◌, ◌≤◌, false, ltb, leb, List, [], ◌∷◌, length, drop, Some, Ok, Err, sym, refl, ap, ◌∙◌, arith, length-drop}
 use Rattle.control.specs.declared.control.Control.{Control}
 use Rattle.protocol.specs.Operands.{Make}
 use Rattle.protocol.specs.Bank.{Bank}
 use Rattle.records.specs.declared.defect.Defect.{Defect}
 use Rattle.records.specs.declared.fault.Placed.{Placed}
-use Rattle.records.specs.Records.{Item, Got, record_at}
+use Rattle.records.specs.Records.{Item, record_at}
 use Rattle.records.specs.Reading.{placed}
-use Rattle.stream.specs.Entries.{Entry, entry}
+use Rattle.stream.specs.Entries.{entry}
 use Rattle.stream.specs.Entries.Entry.{faulty}
-use Rattle.stream.specs.Runs.{Next, read_next, next_turn}
+use Rattle.stream.specs.Runs.{read_next, next_turn}
 use Rattle.stream.specs.Runs.Next.{goes_on, ends}
 
 module _ (m : Make) (input : List ℕ) (p free : ℕ) (b : Bank) (c : Control) (more : leb (length input) p ≡ false) (room : ltb free 8 ≡ false) where

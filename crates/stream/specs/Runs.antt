@@ -1,10 +1,8 @@
 -- A run: what every input gives.
 use Rattle.std.specs.Prelude.{◌≡◌, ℕ, zero, suc, ◌-◌, ◌<◌, ◌≤◌, cond, List, [], ◌∷◌, length, drop, Some, None, Ok, Err, Option, Result, nat_le, nat_lt}
 use Rattle.control.specs.declared.control.Control.{Control}
-use Rattle.protocol.specs.declared.call.Call.{Call}
 use Rattle.protocol.specs.Operands.{Make}
 use Rattle.protocol.specs.Bank.{Bank}
-use Rattle.protocol.specs.Promise.{bank_after}
 use Rattle.protocol.specs.Plays.{StandsInHistory}
 use Rattle.records.specs.declared.fault.Fault.{Fault}
 use Rattle.records.specs.declared.fault.Fault.TheVariants.{NoRoom, TooLong}

@@ -1,5 +1,4 @@
-use Rattle.std.proofs.Common.{◌≡◌, ◌^◌, ◌<◌, ◌≤◌, arith}
-use Rattle.selection.specs.Starts.{halves}
+use Rattle.std.proofs.Common.{◌^◌, ◌<◌, ◌≤◌, arith}
 use Rattle.recurrence.proofs.Starting.{halves_most, operand_small, product_small}
 use Rattle.recurrence.proofs.first.first_product.Goals as goal
 

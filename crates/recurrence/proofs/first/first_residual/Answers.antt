@@ -1,4 +1,4 @@
-use Rattle.std.proofs.Common.{◌≡◌, ◌^◌, ◌<◌, ◌≤◌, arith}
+use Rattle.std.proofs.Common.{◌^◌, ◌<◌, ◌≤◌, arith}
 use Rattle.recurrence.proofs.Starting.{halves_most, operand_small, square_small}
 use Rattle.recurrence.proofs.first.first_residual.Goals as goal
 

@@ -1,4 +1,4 @@
-use Rattle.std.proofs.Common.{◌≡◌, ◌+◌, ◌*◌, ◌%◌, ◌^◌, ◌≤◌, ℤ, pos, arith, pow_mono, w64, to_z}
+use Rattle.std.proofs.Common.{◌≡◌, ◌+◌, ◌*◌, ◌%◌, ◌^◌, ◌≤◌, pos, arith, pow_mono, w64, to_z}
 use Rattle.std.proofs.lemmas.Int.{ints}
 use Rattle.recurrence.proofs.first.one.Goals as goal
 

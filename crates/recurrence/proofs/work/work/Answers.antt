@@ -1,13 +1,12 @@
-use Rattle.std.proofs.Common.{◌≡◌, ℕ, false, sym, ap, ◌∙◌, subst}
+use Rattle.std.proofs.Common.{◌≡◌, sym, subst}
 use Rattle.arithmetic.specs.Estimates.{shortfall}
 use Rattle.number_form.specs.Forms.{FormModel, LawfulForm}
 use Rattle.selection.specs.declared.operand.Operand.{Operand}
-use Rattle.selection.specs.Operands.{Sized, InRange, quarter}
+use Rattle.selection.specs.Operands.{Sized, InRange}
 use Rattle.selection.specs.Selectors.{SelectorModel, LawfulSelector}
 use Rattle.recurrence.specs.declared.registers.Outcome.{Outcome}
 use Rattle.recurrence.specs.Recurrence.{worked}
 use Rattle.recurrence.specs.Root.{ReciprocalRoot, Exactness}
-use Rattle.recurrence.specs.Stages.{Kept}
 use Rattle.recurrence.proofs.Finishing.{worked_root, worked_exactness, kept_above, root_unique}
 use Rattle.recurrence.proofs.work.work.Goals as goal
 

@@ -1,8 +1,7 @@
-use Rattle.std.proofs.Common.{◌≡◌, ℕ, List, length, sym, refl, ap, ◌∙◌, subst, arith, rules}
+use Rattle.std.proofs.Common.{◌≡◌, ℕ, List, length, refl, ap, ◌∙◌, subst, arith, rules}
 use Rattle.protocol.specs.Operands.{Make, make}
 use Rattle.lanes.specs.Seen.{seen}
 use Rattle.stream.specs.declared.turn.Advance.{Advance}
-use Rattle.stream.specs.declared.turn.Advance.TheVariants.{GoesOn, Ends}
 use Rattle.stream.specs.Runs.{Turned, Goes_on, Ended, Ran}
 use Rattle.stream.proofs.Coursing.{start, again, over}
 use Rattle.stream.proofs.run.work_off.Goals as goal

@@ -1,4 +1,4 @@
-use Rattle.std.proofs.Common.{◌≡◌, ℕ, ◌-◌, ◌<◌, false, ltb, leb, List, [], ◌∷◌, length, Some, None, Ok, Err, Option, sym, refl, ap, ◌∙◌, subst, arith, rules, ltb-false, ltb-true}
+use Rattle.std.proofs.Common.{◌≡◌, ℕ, ◌-◌, ◌<◌, false, ltb, leb, List, [], ◌∷◌, length, Some, None, Ok, Option, refl, ap, subst, arith, rules}
 use Rattle.std.proofs.lemmas.Bool.Decides.{nat_tests}
 use Rattle.protocol.specs.Operands.{Make, make}
 use Rattle.lanes.specs.Seen.{seen}
@@ -6,7 +6,7 @@ use Rattle.records.specs.declared.reader.Found.{Found}
 use Rattle.records.specs.Records.{item}
 use Rattle.records.specs.Reading.{Reads}
 use Rattle.stream.specs.Answers.{bytes, Writes}
-use Rattle.stream.specs.Entries.{entry, written}
+use Rattle.stream.specs.Entries.{entry}
 use Rattle.stream.specs.Entries.Entry.{faulty}
 use Rattle.stream.proofs.Written.{wrote_last}
 use Rattle.stream.proofs.Turning.{goes, faults, none_left}

@@ -1,6 +1,4 @@
-use Rattle.std.proofs.Common.{◌≡◌, ℕ, ◌<◌, ◌≤◌, length, None, refl, ◌∙◌, ap₂, arith}
-use Rattle.number_form.specs.Forms.{FormModel}
-use Rattle.selection.specs.Selectors.{SelectorModel}
+use Rattle.std.proofs.Common.{◌≡◌, ◌<◌, ◌≤◌, length, None, ◌∙◌, arith}
 use Rattle.protocol.specs.declared.call.Call.TheVariants.{Tick}
 use Rattle.protocol.specs.Operands.{Make, make}
 use Rattle.lanes.specs.Seen.{seen}

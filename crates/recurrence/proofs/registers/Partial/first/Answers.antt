@@ -1,4 +1,4 @@
-use Rattle.std.proofs.Common.{◌≡◌, ℕ, ◌+◌, ◌-◌, ◌*◌, ◌%◌, ◌^◌, ◌<◌, ◌≤◌, mod-eq_of_lt, arith}
+use Rattle.std.proofs.Common.{◌≡◌, ℕ, ◌+◌, ◌-◌, ◌*◌, ◌%◌, ◌^◌, ◌≤◌, mod-eq_of_lt, arith}
 use Rattle.selection.specs.declared.start.Start.{Start}
 use Rattle.selection.specs.Starts.{halves}
 use Rattle.recurrence.specs.declared.registers.Partial.{Partial}

@@ -3,7 +3,7 @@ use Rattle.std.proofs.lemmas.Int.{ints, to_z-of_z}
 use Rattle.std.proofs.lemmas.Bool.Decides.{nat_tests}
 use Rattle.recurrence.specs.declared.registers.Partial.{Partial}
 use Rattle.recurrence.specs.Recurrence.{complete, next_s, next_below}
-use Rattle.recurrence.proofs.Conversion.{converted, Converted}
+use Rattle.recurrence.proofs.Conversion.{converted}
 use Rattle.recurrence.proofs.Turning.{assembled, chosen_if}
 use Rattle.recurrence.proofs.running.Running.turn.Goals as goal
 
