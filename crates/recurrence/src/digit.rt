@@ -31,7 +31,7 @@ impl Terms {
 impl Partial {
     /// Appends a digit at its place.
     pub(crate) fn append(self, radix: u32, digit: i64, place: u32) -> Partial
-        requires sizes { (2 ≤ radix) × ((radix ≤ 4) × (place ≤ 28)) }
+        requires sizes { (2 ≤ radix) × (radix ≤ 4) × (place ≤ 28) }
         requires digit_fits { (neg_ℤ (pos radix) <ℤ digit) × (digit <ℤ pos radix) }
         requires partial_fits { (self.s ≤ 2 ^ 30) × (self.below ≤ 2 ^ 30) }
         ensures { result ≡ appended radix digit place self }
@@ -74,7 +74,7 @@ impl Partial {
 
 /// Puts a digit that is not negative at its place.
 fn digit_at_place(digit: i64, place: u32) -> u32
-    requires { (pos 0 ≤ℤ digit) × ((digit ≤ℤ pos 3) × (place ≤ 28)) }
+    requires { (pos 0 ≤ℤ digit) × (digit ≤ℤ pos 3) × (place ≤ 28) }
     ensures is { result ≡ unsigned_abs digit * 2 ^ place }
     ensures most { result ≤ 3 * 2 ^ 28 }
 {

@@ -26,7 +26,7 @@ append-partial-requires g c =
     let most = c.pick-choice.ensures.most in
     let self = c.args.self.now in
     let top : 2 ^ (self.registers.q + 2) ≤ 2 ^ 30 = pow_mono {j = 30} (omega arith) in
-    (record { sizes = (c.radix_of-radix.ensures.least, (c.radix_of-radix.ensures.most, omega arith)); digit_fits = (omega (arith, ints), omega (arith, ints)); partial_fits = (omega arith, omega arith) })
+    (record { sizes = (c.radix_of-radix.ensures.least, c.radix_of-radix.ensures.most, omega arith); digit_fits = (omega (arith, ints), omega (arith, ints)); partial_fits = (omega arith, omega arith) })
 
 pub invariant_of-self : goal.invariant_of-self
 invariant_of-self g c =
