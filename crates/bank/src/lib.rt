@@ -5,3 +5,5 @@ pub mod bank;
 mod calls;
 mod making;
 mod play;
+
+pub use protocol::{call, refusal};

@@ -12,6 +12,7 @@ pub(crate) enum Trouble {
     NoWord(String),
     NoNumber(String),
     Refused(Refusal),
+    Memory(AllocError),
     Failed(io::Error),
 }
 
@@ -30,6 +31,7 @@ impl fmt::Display for Trouble {
                 let number = refusal.number();
                 write!(f, "refused by {number}: {refusal}")
             }
+            Trouble::Memory(error) => write!(f, "{error}"),
             Trouble::Failed(error) => write!(f, "{error}"),
         }
     }
@@ -49,7 +51,7 @@ impl From<io::Error> for Trouble {
 
 impl From<AllocError> for Trouble {
     fn from(error: AllocError) -> Trouble {
-        Trouble::Failed(io::Error::from(error))
+        Trouble::Memory(error)
     }
 }
 
