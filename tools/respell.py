@@ -67,12 +67,13 @@ def defined():
                     found.update(ALIAS.findall(line))
                 if line.startswith(("use ", "pub use ", "infix")):
                     continue
-                head = HEAD.match(line)
-                if head and not GIVEN.search(line):
-                    found.update(head.group(1).split())
-                left = PATTERN.match(line)
-                if left and not (of_a_function(p) and GOAL.match(line)):
-                    found.update(n for n in left.group(1).split() if not n.endswith("-requires"))
+                if not (of_a_function(p) and GOAL.match(line)):
+                    head = HEAD.match(line)
+                    if head and not GIVEN.search(line):
+                        found.update(head.group(1).split())
+                    left = PATTERN.match(line)
+                    if left:
+                        found.update(n for n in left.group(1).split() if not n.endswith("-requires"))
                 for m in LOCAL.finditer(line):
                     found.update((m.group(1) or m.group(2)).split())
                 for m in BOUND.finditer(line):
