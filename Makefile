@@ -21,7 +21,7 @@ test:
 
 example:
 	@mkdir -p target
-	@rt lib c_interface > target/library.log 2>&1 || { cat target/library.log; exit 1; }
+	@(cd crates/c_interface && rt lib) > target/library.log 2>&1 || { cat target/library.log; exit 1; }
 	gcc -O2 -Wall -Wextra -Iinclude -o target/simulate examples/c/simulate.c crates/c_interface/out/libc_interface.a
 	target/simulate > target/simulate.out
 	diff examples/c/expected target/simulate.out

@@ -7,7 +7,7 @@ use Rattle.records.specs.declared.fault.Placed.{Placed}
 use Rattle.stream.specs.declared.run.Report.{Report}
 use Rattle.stream.specs.Answers.{bytes, Writes}
 use Rattle.stream.specs.Entries.{Entry, numbers, written, bank_then, control_then}
-use Rattle.stream.specs.Runs.{Next, next_turn, Goes_on, Ended, Course, before, onward, course, whole, Ran}
+use Rattle.stream.specs.Runs.{Next, next_turn, RunGoesOn, Ended, Course, before, onward, course, whole, Ran}
 use Rattle.stream.proofs.Written.{wrote_then}
 use Rattle.stream.proofs.Honest.{in_history}
 
@@ -51,7 +51,7 @@ module _ (m : Make) (input out₀ : List ℕ) (b₀ : Bank) (c₀ : Control) whe
   unrolled (suc k) p free b c h l = (k, refl, refl)
 
   pub again : (p q at : ℕ) (out : List ℕ) (next : ℕ) (out' : List ℕ) (b b' : Bank) (c c' : Control) → p ≤ length input → Midway m input out₀ b₀ c₀ p at out b c →
-      Goes_on m input p q at out next out' b b' c c' → Midway m input out₀ b₀ c₀ q next out' b' c'
+      RunGoesOn m input p q at out next out' b b' c c' → Midway m input out₀ b₀ c₀ q next out' b' c'
   again p q at out next out' b b' c c' h mid step =
       let e = step.done in
       let u = unrolled mid.left p (length out - at) b c h mid.enough in

@@ -34,7 +34,7 @@ next_turn m input p free b c =
     (cond (nat_lt free 8) (ends [] (Some (record { fault = NoRoom; place = p }))) (read_next m input p b c (record_at (drop p input))))
 
 -- what one turn of the code comes to
-pub record Goes_on (m : Make) (input : List ℕ) (p q at : ℕ) (out : List ℕ) (next : ℕ) (out' : List ℕ) (b b' : Bank) (c c' : Control) : Type 0 where
+pub record RunGoesOn (m : Make) (input : List ℕ) (p q at : ℕ) (out : List ℕ) (next : ℕ) (out' : List ℕ) (b b' : Bank) (c c' : Control) : Type 0 where
   pub done : Entry
   pub is : next_turn m input p (length out - at) b c ≡ goes_on done q
   pub writes : Writes at out next out' (bytes (numbers done))
@@ -50,7 +50,7 @@ pub record Ended (m : Make) (input : List ℕ) (p at : ℕ) (out : List ℕ) (ne
   pub control_is : c' ≡ c
 
 abbrev pub Turned : Make → List ℕ → ℕ → ℕ → ℕ → List ℕ → ℕ → List ℕ → Bank → Bank → Control → Control → Advance → Type 0
-Turned m input p q at out next out' b b' c c' GoesOn = Goes_on m input p q at out next out' b b' c c'
+Turned m input p q at out next out' b b' c c' GoesOn = RunGoesOn m input p q at out next out' b b' c c'
 Turned m input p q at out next out' b b' c c' (Ends stop) = Ended m input p at out next out' b b' c c' stop
 
 -- ---- all records

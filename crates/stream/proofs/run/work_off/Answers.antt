@@ -2,7 +2,7 @@ use Rattle.std.proofs.Common.{◌≡◌, ℕ, List, length, refl, ap, ◌∙◌,
 use Rattle.protocol.specs.Operands.{Make, make}
 use Rattle.lanes.specs.Seen.{seen}
 use Rattle.stream.specs.declared.turn.Advance.{Advance}
-use Rattle.stream.specs.Runs.{Turned, Goes_on, Ended, Ran}
+use Rattle.stream.specs.Runs.{Turned, RunGoesOn, Ended, Ran}
 use Rattle.stream.proofs.Coursing.{start, again, over}
 use Rattle.stream.proofs.run.work_off.Goals as goal
 
@@ -26,15 +26,15 @@ loop-stop-preserved g c =
     let n : Make = make (g.S.Selector.model l.bank.selector) (g.F.NumberForm.model l.bank.form) in
     let same : n ≡ m = λ j. make (g.S.Selector.model (i.2 j)) (g.F.NumberForm.model (i.3 j)) in
     let p = l.reader.at in
-    let turned : Goes_on n l.reader.input.now p t.reader.at l.writer.at l.writer.out.now t.writer.at t.writer.out.now (seen l.bank.lanes) (seen t.bank.lanes) l.control t.control =
+    let turned : RunGoesOn n l.reader.input.now p t.reader.at l.writer.at l.writer.out.now t.writer.at t.writer.out.now (seen l.bank.lanes) (seen t.bank.lanes) l.control t.control =
     subst
     (λ (a : Advance). Turned n l.reader.input.now p t.reader.at l.writer.at l.writer.out.now t.writer.at t.writer.out.now (seen l.bank.lanes) (seen t.bank.lanes) l.control t.control a)
     c.in-GoesOn.is e.turned in
     let by_make = subst
-    (λ (x : Make). Goes_on x l.reader.input.now p t.reader.at l.writer.at l.writer.out.now t.writer.at t.writer.out.now (seen l.bank.lanes) (seen t.bank.lanes) l.control t.control)
+    (λ (x : Make). RunGoesOn x l.reader.input.now p t.reader.at l.writer.at l.writer.out.now t.writer.at t.writer.out.now (seen l.bank.lanes) (seen t.bank.lanes) l.control t.control)
     same turned in
     let step = subst
-    (λ (x : List ℕ). Goes_on m x p t.reader.at l.writer.at l.writer.out.now t.writer.at t.writer.out.now (seen l.bank.lanes) (seen t.bank.lanes) l.control t.control)
+    (λ (x : List ℕ). RunGoesOn m x p t.reader.at l.writer.at l.writer.out.now t.writer.at t.writer.out.now (seen l.bank.lanes) (seen t.bank.lanes) l.control t.control)
     i.1 by_make in (
       e.output ∙ i.0,
       e.input ∙ i.1,
