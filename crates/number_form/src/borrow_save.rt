@@ -6,7 +6,7 @@ use crate::NumberForm;
 use crate::cut::Cut;
 use crate::shift::Shift;
 use crate::sign::Sign;
-use crate::words::Words;
+use crate::words::{Words, majority};
 use arithmetic::{difference, signed_of, times, word_of};
 
 /// The borrow-save form: the number is the first word less the second.
@@ -50,9 +50,8 @@ fn borrow_in(w: Words, n: u64) -> Words
     ensures { result ≡ borrowed n w }
 {
     let Words { first, second } = w;
-    let inverted = !second;
     Words {
-        first: ((first & n) | (first & inverted) | (n & inverted)) << 1,
+        first: majority(first, n, !second) << 1,
         second: first ^ n ^ second,
     }
 }
@@ -68,7 +67,7 @@ fn minus_times(bits: u64, c: i64) -> u64
 fn cut_difference(w: Words, at: Cut) -> u64
     ensures { result ≡ word (cut at.place w) }
 {
-    let u = at.place;
-    let kept = difference((w.first >> u) << u, (w.second >> u) << u);
-    difference(kept, 1 << u)
+    let Words { first, second } = w.from_place(at);
+    let kept = difference(first, second);
+    difference(kept, 1 << at.place)
 }

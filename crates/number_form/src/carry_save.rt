@@ -5,7 +5,7 @@ use crate::NumberForm;
 use crate::cut::Cut;
 use crate::shift::Shift;
 use crate::sign::Sign;
-use crate::words::Words;
+use crate::words::{Words, majority};
 use arithmetic::{signed_of, times, word_of};
 
 /// The carry-save form: the number is the sum of the words.
@@ -35,9 +35,8 @@ impl NumberForm for CarrySave {
     }
 
     fn estimate(&self, w: Words, at: Cut) -> i64 {
-        let u = at.place;
-        let sum = ((w.first >> u) << u).wrapping_add((w.second >> u) << u);
-        signed_of(sum) >> u
+        let kept = w.from_place(at);
+        signed_of(kept.first.wrapping_add(kept.second)) >> at.place
     }
 
     fn sign(&self, w: Words) -> Sign {
@@ -52,6 +51,6 @@ fn carry_in(w: Words, n: u64) -> Words
     let Words { first, second } = w;
     Words {
         first: first ^ second ^ n,
-        second: ((first & second) | (first & n) | (second & n)) << 1,
+        second: majority(first, second, n) << 1,
     }
 }

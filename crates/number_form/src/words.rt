@@ -1,7 +1,9 @@
 ghost use Rattle.std.specs.Prelude.{◌≡◌};
-ghost use Rattle.number_form.specs.Forms.{in_first, shifted};
+ghost use Rattle.number_form.specs.Forms.{in_first, shifted, from_place};
+ghost use Rattle.number_form.specs.CarrySave.{majority};
 ghost use Rattle.number_form.specs.Shifts.{places};
 
+use crate::cut::Cut;
 use crate::shift::Shift;
 use arithmetic::word_of;
 
@@ -33,4 +35,23 @@ impl Words {
             second: self.second << places,
         }
     }
+
+    /// Cuts both words to their bits from a place up.
+    pub(crate) fn from_place(self, at: Cut) -> Words
+        ensures first { result.first ≡ from_place at.place self.first }
+        ensures second { result.second ≡ from_place at.place self.second }
+    {
+        let u = at.place;
+        Words {
+            first: (self.first >> u) << u,
+            second: (self.second >> u) << u,
+        }
+    }
+}
+
+/// Gives, bit by bit, what two of three words have.
+pub(crate) fn majority(a: u64, b: u64, c: u64) -> u64
+    ensures { result ≡ majority a b c }
+{
+    (a & b) | (a & c) | (b & c)
 }
