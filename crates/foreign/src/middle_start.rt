@@ -1,3 +1,4 @@
+ghost use Rattle.std.specs.Prelude.{refl};
 ghost use Rattle.foreign.specs.MiddleStart.{middle_start};
 
 use selection::Selector;
@@ -11,32 +12,26 @@ pub struct MiddleStart;
 impl Selector for MiddleStart {
     const B: u32 = 1;
 
+    ghost B = { 1 };
+
     const A: u32 = 1;
+
+    ghost A = { 1 };
 
     const T: u32 = 2;
 
+    ghost T = { 2 };
+
     const D: u32 = 0;
+
+    ghost D = { 0 };
 
     ghost model = { λ _. middle_start };
 
+    ghost named = { λ _. record { bits = refl; largest = refl; residual_places = refl; product_places = refl } };
+
     fn lawful(&self) {
         Radix2.lawful();
-    }
-
-    fn digit_bits(&self) -> u32 {
-        Self::B
-    }
-
-    fn largest_digit(&self) -> u32 {
-        Self::A
-    }
-
-    fn residual_places(&self) -> u32 {
-        Self::T
-    }
-
-    fn product_places(&self) -> u32 {
-        Self::D
     }
 
     fn start(&self, _k: u32, _x: u32) -> Start {

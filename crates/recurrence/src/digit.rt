@@ -1,5 +1,5 @@
 ghost use Rattle.std.specs.Prelude.{◌≡◌, ◌+◌, ◌*◌, ◌^◌, ◌<◌, ◌≤◌, pos, neg_ℤ, ◌≤ℤ◌, ◌<ℤ◌, unsigned_abs};
-ghost use Rattle.recurrence.specs.Recurrence.{terms, appended, next_s, next_below};
+ghost use Rattle.recurrence.specs.Recurrence.{terms, appended, next_s};
 
 use crate::registers::{Partial, Terms};
 
@@ -38,15 +38,15 @@ impl Partial {
     {
         let radix = i64::from(radix);
         Partial {
-            s: self.next_s(radix, digit, place),
-            below: self.next_below(radix, digit, place),
+            s: self.with_digit(radix, digit, place),
+            below: self.with_digit(radix, digit - 1, place),
         }
     }
 
-    /// Gives the next S.
-    fn next_s(self, radix: i64, digit: i64, place: u32) -> u32
+    /// Gives S with a digit at its place: where the digit is negative, S less one unit of the last place, with the digit and the radix there.
+    fn with_digit(self, radix: i64, digit: i64, place: u32) -> u32
         requires sizes { (radix ≤ℤ pos 4) × (place ≤ 28) }
-        requires digit_fits { (neg_ℤ radix <ℤ digit) × (digit <ℤ radix) }
+        requires digit_fits { (neg_ℤ radix ≤ℤ digit) × (digit <ℤ radix) }
         requires partial_fits { (self.s ≤ 2 ^ 30) × (self.below ≤ 2 ^ 30) }
         ensures { result ≡ next_s radix digit place self }
     {
@@ -54,20 +54,6 @@ impl Partial {
             self.s + digit_at_place(digit, place)
         } else {
             self.below + digit_at_place(radix + digit, place)
-        }
-    }
-
-    /// Gives the next S less one unit of the last place.
-    fn next_below(self, radix: i64, digit: i64, place: u32) -> u32
-        requires sizes { (radix ≤ℤ pos 4) × (place ≤ 28) }
-        requires digit_fits { (neg_ℤ radix <ℤ digit) × (digit <ℤ radix) }
-        requires partial_fits { (self.s ≤ 2 ^ 30) × (self.below ≤ 2 ^ 30) }
-        ensures { result ≡ next_below radix digit place self }
-    {
-        if digit > 0 {
-            self.s + digit_at_place(digit - 1, place)
-        } else {
-            self.below + digit_at_place(radix - 1 + digit, place)
         }
     }
 }

@@ -2,6 +2,7 @@ ghost use Rattle.std.specs.Prelude.{◌≡◌, ◌+◌, ◌^◌, ◌≤◌, pos,
 ghost use Rattle.recurrence.specs.Recurrence.{first_residual, first_product, first_partial, first_registers};
 
 use crate::digit::at_place;
+use crate::make::Make;
 use crate::registers::{Partial, Registers};
 use crate::running::Running;
 use number_form::NumberForm;
@@ -12,15 +13,14 @@ use selection::start::Start;
 impl Running {
     /// Sets the registers for an operand.
     pub(crate) fn new<S: Selector, F: NumberForm>(
-        selector: &S,
-        form: &F,
+        make: &Make<S, F>,
         operand: Operand,
     ) -> Running
-        ensures { result.registers ≡ first_registers (S.Selector.model selector.now) (F.NumberForm.model form.now) operand.k operand.q operand.x }
+        ensures { result.registers ≡ first_registers (S.Selector.model make.now.selector) (F.NumberForm.model make.now.form) operand.k operand.q operand.x }
     {
-        let start = selector.start(operand.k, operand.x);
-        let residual = form.set(first_residual(operand, start));
-        let product = form.set(first_product(operand, start));
+        let start = make.selector.start(operand.k, operand.x);
+        let residual = make.form.set(first_residual(operand, start));
+        let product = make.form.set(first_product(operand, start));
         let partial = Partial::first(operand, start);
         Running {
             registers: Registers {

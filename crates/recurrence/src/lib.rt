@@ -4,6 +4,7 @@
 pub mod digit;
 pub mod first;
 pub mod job;
+pub mod make;
 pub mod registers;
 pub mod running;
 pub mod turn;

@@ -3,6 +3,7 @@ ghost use Rattle.number_form.specs.Shifts.{places};
 ghost use Rattle.recurrence.specs.Recurrence.{chosen, chosen_from, complete, reduced_by, turned, result_of};
 
 use crate::digit::at_place;
+use crate::make::Make;
 use crate::registers::{Choice, Outcome, Registers, Terms};
 use crate::running::Running;
 use number_form::NumberForm;
@@ -16,34 +17,31 @@ impl Running {
     /// Makes one digit, and tells how it was chosen; where none is left to make, it tells nothing and changes nothing.
     pub(crate) fn turn<S: Selector, F: NumberForm>(
         &mut self,
-        selector: &S,
-        form: &F,
+        make: &Make<S, F>,
     ) -> Option<Choice>
-        ensures tells { result ≡ (if complete (S.Selector.model selector.now) self.old.registers then None else Some (chosen (S.Selector.model selector.now) (F.NumberForm.model form.now) self.old.registers)) }
-        ensures after { self.new.registers ≡ turned (S.Selector.model selector.now) (F.NumberForm.model form.now) self.old.registers }
+        ensures tells { result ≡ (if complete (S.Selector.model make.now.selector) self.old.registers then None else Some (chosen (S.Selector.model make.now.selector) (F.NumberForm.model make.now.form) self.old.registers)) }
+        ensures after { self.new.registers ≡ turned (S.Selector.model make.now.selector) (F.NumberForm.model make.now.form) self.old.registers }
     {
-        selector.lawful();
-        let bits = selector.digit_bits();
+        make.selector.lawful();
+        let bits = S::B;
         let radix = radix_of(bits);
         let before = self.registers;
         if before.place < bits {
             return None;
         }
         let place = before.place - bits;
-        let shifted = form.shift(before.residual, shift_by(bits));
-        let choice = pick(selector, form, before.k + before.q, shifted, before.product);
+        let shifted = make.form.shift(before.residual, shift_by(bits));
+        let choice = pick(make, before.k + before.q, shifted, before.product);
         let terms = Terms::of(choice.digit, at_place(u64::from(before.factor), place));
-        let residual = reduce(form, terms, before.product, shifted);
-        let product = form.add(before.product, terms.once);
+        let residual = reduce(&make.form, terms, before.product, shifted);
+        let product = make.form.add(before.product, terms.once);
         let partial = before.partial.append(radix, choice.digit, place);
         self.registers = Registers {
-            k: before.k,
-            q: before.q,
-            factor: before.factor,
             place,
             residual,
             product,
             partial,
+            ..before
         };
         Some(choice)
     }
@@ -54,7 +52,7 @@ impl Running {
         ensures few { result ≤ 28 }
     {
         selector.lawful();
-        (self.registers.q - self.registers.place) / selector.digit_bits()
+        (self.registers.q - self.registers.place) / S::B
     }
 
     /// Counts the digits left to make.
@@ -62,7 +60,7 @@ impl Running {
         ensures { result ≡ self.now.registers.place / (S.Selector.model selector.now).bits }
     {
         selector.lawful();
-        self.registers.place / selector.digit_bits()
+        self.registers.place / S::B
     }
 
     /// Reads the result off the registers: s, or s - 1 where the residual is negative.
@@ -80,27 +78,26 @@ impl Running {
 
 /// Chooses a digit from the shifted residual and the product, which are kept times 2^scale.
 pub(crate) fn pick<S: Selector, F: NumberForm>(
-    selector: &S,
-    form: &F,
+    make: &Make<S, F>,
     scale: u32,
     shifted: Words,
     product: Words,
 ) -> Choice
     requires { (6 ≤ scale) × (scale ≤ 60) }
-    ensures is { result ≡ chosen_from (S.Selector.model selector.now) (F.NumberForm.model form.now) scale shifted product }
-    ensures least { neg_ℤ (pos (2 ^ (S.Selector.model selector.now).bits)) <ℤ result.digit }
-    ensures most { result.digit <ℤ pos (2 ^ (S.Selector.model selector.now).bits) }
+    ensures is { result ≡ chosen_from (S.Selector.model make.now.selector) (F.NumberForm.model make.now.form) scale shifted product }
+    ensures least { neg_ℤ (pos (2 ^ (S.Selector.model make.now.selector).bits)) <ℤ result.digit }
+    ensures most { result.digit <ℤ pos (2 ^ (S.Selector.model make.now.selector).bits) }
 {
-    selector.lawful();
+    make.selector.lawful();
     let at_residual = Cut {
-        place: scale - selector.residual_places(),
+        place: scale - S::T,
     };
     let at_product = Cut {
-        place: scale - selector.product_places(),
+        place: scale - S::D,
     };
-    let residual = form.estimate(shifted, at_residual);
-    let product = form.estimate(product, at_product);
-    let digit = selector.digit(residual, product);
+    let residual = make.form.estimate(shifted, at_residual);
+    let product = make.form.estimate(product, at_product);
+    let digit = make.selector.digit(residual, product);
     Choice {
         residual,
         product,

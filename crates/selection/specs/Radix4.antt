@@ -11,11 +11,14 @@ start_4 K x = cond (nat_lt (8 * x) (3 * 2 ^ K)) Two (cond (nat_lt (4 * x) (3 * 2
 
 -- The thresholds P + 1/64 and 3 * (P + 1/64), each cut down to a multiple of 1/16, also where it is negative. The product's estimate P is in
 -- 64ths, and the thresholds and the residual's estimate W are in sixteenths.
+abbrev pub threshold : ℤ → ℤ → ℤ
+threshold times P̂ = shr_z (times *ℤ (P̂ +ℤ pos 1)) 4
+
 abbrev pub inner : ℤ → ℤ
-inner P̂ = shr_z (P̂ +ℤ pos 1) 4
+inner P̂ = threshold (pos 1) P̂
 
 abbrev pub outer : ℤ → ℤ
-outer P̂ = shr_z (pos 3 *ℤ (P̂ +ℤ pos 1)) 4
+outer P̂ = threshold (pos 3) P̂
 
 -- from which W on each digit is chosen
 abbrev pub two_from : ℤ → ℤ

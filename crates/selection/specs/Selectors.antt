@@ -15,6 +15,13 @@ pub record SelectorModel : Type 0 where
   pub start : ℕ → ℕ → Start
   pub digit : ℤ → ℤ → ℤ
 
+-- The constants b, a, t and d are those that the model names.
+pub record Named (b a t d : ℕ) (S : SelectorModel) : Type 0 where
+  pub bits : S.bits ≡ b
+  pub largest : S.largest ≡ a
+  pub residual_places : S.residual_places ≡ t
+  pub product_places : S.product_places ≡ d
+
 abbrev pub radix : SelectorModel → ℕ
 radix S = 2 ^ S.bits
 

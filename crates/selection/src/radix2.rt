@@ -1,4 +1,4 @@
-ghost use Rattle.std.specs.Prelude.{◌≡◌, ℕ, pos};
+ghost use Rattle.std.specs.Prelude.{◌≡◌, ℕ, pos, refl};
 ghost use Rattle.arithmetic.specs.Estimates.{shortfall};
 ghost use Rattle.selection.specs.Operands.{Sized, InRange};
 ghost use Rattle.selection.specs.Selectors.{LawfulSelector, Contains};
@@ -14,34 +14,28 @@ pub struct Radix2;
 impl Selector for Radix2 {
     const B: u32 = 1;
 
+    ghost B = { 1 };
+
     const A: u32 = 1;
+
+    ghost A = { 1 };
 
     const T: u32 = 2;
 
+    ghost T = { 2 };
+
     const D: u32 = 0;
 
+    ghost D = { 0 };
+
     ghost model = { λ _. radix_2 };
+
+    ghost named = { λ _. record { bits = refl; largest = refl; residual_places = refl; product_places = refl } };
 
     fn lawful(&self)
         ensures laws { LawfulSelector shortfall radix_2 }
         ensures every_operand { (K Q x : ℕ) → Sized K Q → InRange K x → Contains shortfall radix_2 K Q x }
     {}
-
-    fn digit_bits(&self) -> u32 {
-        Self::B
-    }
-
-    fn largest_digit(&self) -> u32 {
-        Self::A
-    }
-
-    fn residual_places(&self) -> u32 {
-        Self::T
-    }
-
-    fn product_places(&self) -> u32 {
-        Self::D
-    }
 
     fn start(&self, _k: u32, _x: u32) -> Start {
         Start::One

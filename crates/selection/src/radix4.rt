@@ -1,8 +1,8 @@
-ghost use Rattle.std.specs.Prelude.{◌≡◌, ℕ, ◌^◌, ◌≤◌, false, neg_ℤ, unsigned_abs};
+ghost use Rattle.std.specs.Prelude.{◌≡◌, ℕ, ◌^◌, ◌≤◌, false, pos, ◌≤ℤ◌, neg_ℤ, unsigned_abs, refl};
 ghost use Rattle.arithmetic.specs.Estimates.{shortfall};
 ghost use Rattle.selection.specs.Operands.{Sized, InRange};
 ghost use Rattle.selection.specs.Selectors.{LawfulSelector, Contains, beyond};
-ghost use Rattle.selection.specs.Radix4.{inner, outer, by_thresholds, radix_4};
+ghost use Rattle.selection.specs.Radix4.{threshold, by_thresholds, radix_4};
 
 use crate::start::Start;
 use crate::{Selector, is_beyond};
@@ -14,34 +14,28 @@ pub struct Radix4;
 impl Selector for Radix4 {
     const B: u32 = 2;
 
+    ghost B = { 2 };
+
     const A: u32 = 2;
+
+    ghost A = { 2 };
 
     const T: u32 = 4;
 
+    ghost T = { 4 };
+
     const D: u32 = 6;
 
+    ghost D = { 6 };
+
     ghost model = { λ _. radix_4 };
+
+    ghost named = { λ _. record { bits = refl; largest = refl; residual_places = refl; product_places = refl } };
 
     fn lawful(&self)
         ensures laws { LawfulSelector shortfall radix_4 }
         ensures every_operand { (K Q x : ℕ) → Sized K Q → InRange K x → Contains shortfall radix_4 K Q x }
     {}
-
-    fn digit_bits(&self) -> u32 {
-        Self::B
-    }
-
-    fn largest_digit(&self) -> u32 {
-        Self::A
-    }
-
-    fn residual_places(&self) -> u32 {
-        Self::T
-    }
-
-    fn product_places(&self) -> u32 {
-        Self::D
-    }
 
     fn start(&self, k: u32, x: u32) -> Start {
         // 3 * 2^K; past 34 a larger K makes no difference, since 8 x is below 2^35
@@ -60,7 +54,7 @@ impl Selector for Radix4 {
         if is_beyond(residual) || is_beyond(product) {
             return 0;
         }
-        by_thresholds(residual, inner_threshold(product), outer_threshold(product))
+        by_thresholds(residual, threshold(1, product), threshold(3, product))
     }
 }
 
@@ -82,20 +76,12 @@ fn by_thresholds(residual: i64, inner: i64, outer: i64) -> i64
     }
 }
 
-/// Gives the least residual for the digit 1: the product and 1/64, cut down to sixteenths. The shift cuts toward minus infinity.
-fn inner_threshold(product: i64) -> i64
-    requires { beyond product ≡ false }
-    ensures is { result ≡ inner product }
+/// Gives the least residual for a digit: so many times the product and 1/64, cut down to sixteenths. The shift cuts toward minus infinity.
+fn threshold(times: i64, product: i64) -> i64
+    requires times { (pos 1 ≤ℤ times) × (times ≤ℤ pos 3) }
+    requires product { beyond product ≡ false }
+    ensures is { result ≡ threshold times product }
     ensures small { unsigned_abs result ≤ 2 ^ 42 }
 {
-    (product + 1) >> 2
-}
-
-/// Gives the least residual for the digit 2: three times the product and 1/64, cut down to sixteenths.
-fn outer_threshold(product: i64) -> i64
-    requires { beyond product ≡ false }
-    ensures is { result ≡ outer product }
-    ensures small { unsigned_abs result ≤ 2 ^ 42 }
-{
-    (3 * (product + 1)) >> 2
+    (times * (product + 1)) >> 2
 }

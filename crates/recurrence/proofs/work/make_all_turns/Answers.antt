@@ -2,8 +2,8 @@ use Rattle.std.proofs.Common.{sym, ap, ◌∙◌, add-one}
 use Rattle.recurrence.specs.Recurrence.{turned, turns}
 use Rattle.recurrence.proofs.work.make_all_turns.Goals as goal
 
-pub loop-i-preserved : goal.loop-i-preserved
-loop-i-preserved g c =
-    let S = g.S.Selector.model c.args.selector.now in
-    let F = g.F.NumberForm.model c.args.form.now in
-    c.turn.ensures.after ∙ ap (turned S F) c.loop-i.invariant ∙ ap (λ k. turns S F k c.new-running.result.registers) (sym (add-one c.loop-i.i))
+pub loop-preserved : goal.loop-preserved
+loop-preserved g c =
+    let S = g.S.Selector.model c.args.make.now.selector in
+    let F = g.F.NumberForm.model c.args.make.now.form in
+    c.turn.ensures.after ∙ ap (turned S F) c.loop.invariant ∙ ap (λ k. turns S F k c.new-running.result.registers) (sym (add-one c.loop.counter))

@@ -9,8 +9,9 @@ use Rattle.recurrence.proofs.running.Running.turn.Goals as goal
 
 pub of-terms-requires : goal.of-terms-requires
 of-terms-requires g c =
-    let S = g.S.Selector.model c.args.selector.now in
-    let rad : c.radix_of-radix.result ≡ 2 ^ S.bits = c.radix_of-radix.ensures.is ∙ ap (λ k. 2 ^ k) c.digit_bits-bits.ensures in
+    let S = g.S.Selector.model c.args.make.now.selector in
+    let bits_is : c.B-bits.result ≡ S.bits = c.B-bits.ensures ∙ sym (g.met.S.Selector.named c.args.make.now.selector).bits in
+    let rad : c.radix_of-radix.result ≡ 2 ^ S.bits = c.radix_of-radix.ensures.is ∙ ap (λ k. 2 ^ k) bits_is in
     let few : 2 ^ S.bits ≤ 4 = omega (arith, rad, c.radix_of-radix.ensures.most) in
     let least = c.pick-choice.ensures.least in
     let most = c.pick-choice.ensures.most in
@@ -20,8 +21,9 @@ of-terms-requires g c =
 
 pub append-partial-requires : goal.append-partial-requires
 append-partial-requires g c =
-    let S = g.S.Selector.model c.args.selector.now in
-    let rad : c.radix_of-radix.result ≡ 2 ^ S.bits = c.radix_of-radix.ensures.is ∙ ap (λ k. 2 ^ k) c.digit_bits-bits.ensures in
+    let S = g.S.Selector.model c.args.make.now.selector in
+    let bits_is : c.B-bits.result ≡ S.bits = c.B-bits.ensures ∙ sym (g.met.S.Selector.named c.args.make.now.selector).bits in
+    let rad : c.radix_of-radix.result ≡ 2 ^ S.bits = c.radix_of-radix.ensures.is ∙ ap (λ k. 2 ^ k) bits_is in
     let least = c.pick-choice.ensures.least in
     let most = c.pick-choice.ensures.most in
     let self = c.args.self.now in
@@ -30,14 +32,15 @@ append-partial-requires g c =
 
 pub invariant_of-self : goal.invariant_of-self
 invariant_of-self g c =
-    let S = g.S.Selector.model c.args.selector.now in
+    let S = g.S.Selector.model c.args.make.now.selector in
     let u = c.args.self.now in
     let before = u.registers in
     let r = c.radix_of-radix.result in
-    let b = c.digit_bits-bits.result in
+    let b = c.B-bits.result in
     let p = before.place - b in
+    let bits_is : b ≡ S.bits = c.B-bits.ensures ∙ sym (g.met.S.Selector.named c.args.make.now.selector).bits in
     let q : ℤ = to_z w64 (of_z w64 c.pick-choice.result.digit) in
-    let rad : r ≡ 2 ^ S.bits = c.radix_of-radix.ensures.is ∙ ap (λ k. 2 ^ k) c.digit_bits-bits.ensures in
+    let rad : r ≡ 2 ^ S.bits = c.radix_of-radix.ensures.is ∙ ap (λ k. 2 ^ k) bits_is in
     let least = c.pick-choice.ensures.least in
     let most = c.pick-choice.ensures.most in
     let low : neg_ℤ (pos r) <ℤ q = omega (arith, ints) in
@@ -61,23 +64,24 @@ not_less m n h = grind (arith, nat_tests)
 
 pub returns : goal.returns
 returns g c =
-    let S = g.S.Selector.model c.args.selector.now in
-    let F = g.F.NumberForm.model c.args.form.now in
+    let S = g.S.Selector.model c.args.make.now.selector in
+    let F = g.F.NumberForm.model c.args.make.now.form in
     let before = c.args.self.now.registers in
     let y = c.of-terms.result in
-    let rad : c.radix_of-radix.result ≡ 2 ^ S.bits = c.radix_of-radix.ensures.is ∙ ap (λ k. 2 ^ k) c.digit_bits-bits.ensures in
+    let bits_is : c.B-bits.result ≡ S.bits = c.B-bits.ensures ∙ sym (g.met.S.Selector.named c.args.make.now.selector).bits in
+    let rad : c.radix_of-radix.result ≡ 2 ^ S.bits = c.radix_of-radix.ensures.is ∙ ap (λ k. 2 ^ k) bits_is in
     let few : 2 ^ S.bits ≤ 4 = omega (arith, rad, c.radix_of-radix.ensures.most) in
     let least = c.pick-choice.ensures.least in
     let most = c.pick-choice.ensures.most in
-    let room : S.bits ≤ before.place = omega (arith, c.if-before-bits.false, c.digit_bits-bits.ensures) in
+    let room : S.bits ≤ before.place = omega (arith, c.if-before-bits.false, bits_is) in
     let more : complete S before ≡ false = not_less before.place S.bits room in
     let digit : to_z w64 (of_z w64 c.pick-choice.result.digit) ≡ c.pick-choice.result.digit = omega (arith, ints) in
     let term : to_z w64 (of_z w64 c.at_place.result) ≡ c.at_place.result = omega (arith, ints) in
     let once : SFits w64 y.once = search rules in
-    let shifted : c.shift-shifted.result ≡ F.shift c.digit_bits-bits.result before.residual = c.shift-shifted.ensures ∙ ap (λ k. F.shift k before.residual) c.shift_by.ensures in
+    let shifted : c.shift-shifted.result ≡ F.shift c.B-bits.result before.residual = c.shift-shifted.ensures ∙ ap (λ k. F.shift k before.residual) c.shift_by.ensures in
     record {
-      tells = chosen_if S F before c.digit_bits-bits.ensures shifted c.pick-choice.ensures.is more;
+      tells = chosen_if S F before bits_is shifted c.pick-choice.ensures.is more;
       after = assembled S F before digit term (to_z-of_z w64 y.once once)
-          c.digit_bits-bits.ensures c.radix_of-radix.ensures.is c.from.ensures shifted c.pick-choice.ensures.is
+          bits_is c.radix_of-radix.ensures.is c.from.ensures shifted c.pick-choice.ensures.is
           c.at_place.ensures.is c.of-terms.ensures c.reduce-residual.ensures c.add-product.ensures c.append-partial.ensures more;
     }
