@@ -12,10 +12,7 @@ use selection::start::Start;
 
 impl Running {
     /// Sets the registers for an operand.
-    pub(crate) fn new<S: Selector, F: NumberForm>(
-        make: &Make<S, F>,
-        operand: Operand,
-    ) -> Running
+    pub(crate) fn new<S: Selector, F: NumberForm>(make: &Make<S, F>, operand: Operand) -> Running
         ensures { result.registers ≡ first_registers (S.Selector.model make.now.selector) (F.NumberForm.model make.now.form) operand.k operand.q operand.x }
     {
         let start = make.selector.start(operand.k, operand.x);

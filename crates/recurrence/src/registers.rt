@@ -1,7 +1,7 @@
 use number_form::words::Words;
 
 /// The registers of a job under way, after some digits.
-#[derive(Clone, Copy, Drop)]
+#[derive(Clone, Copy, Drop, PartialEq, Eq, Debug)]
 pub struct Registers {
     /// The operand's width K.
     pub k: u32,
@@ -20,7 +20,7 @@ pub struct Registers {
 }
 
 /// A partial result as on-the-fly conversion keeps it, in plain numbers: S, and S less one unit of the last digit's place.
-#[derive(Clone, Copy, Drop)]
+#[derive(Clone, Copy, Drop, PartialEq, Eq, Debug)]
 pub struct Partial {
     /// S times 2^Q.
     pub s: u32,
@@ -29,7 +29,7 @@ pub struct Partial {
 }
 
 /// A digit with the estimates that it was chosen from.
-#[derive(Clone, Copy, Drop)]
+#[derive(Clone, Copy, Drop, PartialEq, Eq, Debug)]
 pub struct Choice {
     /// The estimate of the shifted residual.
     pub residual: i64,
@@ -39,7 +39,7 @@ pub struct Choice {
 }
 
 /// What a job comes to: f is the largest number with X (f / 2^Q)^2 at most 1.
-#[derive(Clone, Copy, Drop)]
+#[derive(Clone, Copy, Drop, PartialEq, Eq, Debug)]
 pub struct Outcome {
     pub f: u32,
     /// Whether f / 2^Q is the reciprocal root itself.

@@ -11,11 +11,11 @@ use crate::special::Special;
 use recurrence::registers::Outcome;
 use selection::operand::Operand;
 
-impl Decoded {
-    /// Decodes a single's word. Subnormals count as zeros.
-    pub fn of(word: u32) -> Decoded
-        ensures { seen result ≡ reading word }
-    {
+/// Decodes a single's word. Subnormals count as zeros.
+impl From<u32> for Decoded {
+    ghost from_gives = { λ word r. seen r ≡ reading word };
+
+    fn from(word: u32) -> Decoded {
         let negative = word >= 1 << 31;
         let exponent = (word >> 23) % 256;
         let fraction = word % (1 << 23);

@@ -1,6 +1,8 @@
 ghost use Rattle.std.specs.Prelude.{◌≡◌, ◌<◌};
 ghost use Rattle.single.specs.MarkSets.{number, union};
 
+use std::fmt;
+
 /// The marks that a result raises, IEEE 754's flags.
 #[derive(Clone, Copy, Drop, PartialEq, Eq, Debug)]
 pub struct Marks {
@@ -20,22 +22,19 @@ impl Marks {
     /// Inexact alone.
     pub const INEXACT: Marks = Marks {
         inexact: true,
-        invalid: false,
-        division_by_zero: false,
+        ..Marks::NONE
     };
 
     /// Invalid alone.
     pub const INVALID: Marks = Marks {
-        inexact: false,
         invalid: true,
-        division_by_zero: false,
+        ..Marks::NONE
     };
 
     /// Division by zero alone.
     pub const DIVISION_BY_ZERO: Marks = Marks {
-        inexact: false,
-        invalid: false,
         division_by_zero: true,
+        ..Marks::NONE
     };
 
     /// Gives the marks' number: 1 for inexact, 2 for invalid and 4 for division by zero, added.
@@ -55,5 +54,27 @@ impl Marks {
             invalid: self.invalid || other.invalid,
             division_by_zero: self.division_by_zero || other.division_by_zero,
         }
+    }
+}
+
+/// The marks by their names, or that there are none.
+impl fmt::Display for Marks {
+    fn fmt<W: fmt::Write>(&self, f: &mut fmt::Formatter<W>) -> fmt::Result {
+        let named = [
+            (self.inexact, "inexact"),
+            (self.invalid, "invalid"),
+            (self.division_by_zero, "division by zero"),
+        ];
+        let mut before = "";
+        for (raised, name) in named {
+            if raised {
+                write!(f, "{before}{name}")?;
+                before = " ";
+            }
+        }
+        if before.is_empty() {
+            write!(f, "none")?;
+        }
+        Ok(())
     }
 }

@@ -3,6 +3,7 @@ ghost use Rattle.single.specs.Readings.{special_answer};
 
 use crate::answer::Answer;
 use crate::marks::Marks;
+use std::fmt;
 
 /// A word whose reciprocal root is settled at once.
 #[derive(Clone, Copy, Drop, PartialEq, Eq, Debug)]
@@ -36,4 +37,21 @@ fn told(word: u32, marks: Marks) -> Answer
     ensures { result ≡ record { word = word; marks = marks } }
 {
     Answer { word, marks }
+}
+
+impl fmt::Display for Special {
+    fn fmt<W: fmt::Write>(&self, f: &mut fmt::Formatter<W>) -> fmt::Result {
+        match self {
+            Special::NotANumber { quiet: true } => write!(f, "a quiet NaN"),
+            Special::NotANumber { quiet: false } => write!(f, "a signalling NaN"),
+            Special::Zero { negative: false } => {
+                write!(f, "a positive zero, or a subnormal that counts as one")
+            }
+            Special::Zero { negative: true } => {
+                write!(f, "a negative zero, or a subnormal that counts as one")
+            }
+            Special::PlusInfinity => write!(f, "plus infinity"),
+            Special::Negative => write!(f, "a negative number"),
+        }
+    }
 }
