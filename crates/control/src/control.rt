@@ -22,18 +22,4 @@ impl Control {
             marks: Marks::NONE,
         }
     }
-
-    /// Gives the mode.
-    pub fn mode(&self) -> Mode
-        ensures { result ≡ self.now.mode }
-    {
-        self.mode
-    }
-
-    /// Gives the marks raised so far.
-    pub fn marks(&self) -> Marks
-        ensures { result ≡ self.now.marks }
-    {
-        self.marks
-    }
 }

@@ -1,10 +1,31 @@
 ghost use Rattle.std.specs.Prelude.{◌≡◌};
-ghost use Rattle.control.specs.Controls.{in_mode, raised};
+ghost use Rattle.control.specs.Controls.{in_mode};
 
+use crate::collecting::Collecting;
 use crate::control::Control;
 use crate::span::Span;
 use single::marks::Marks;
 use single::mode::Mode;
+
+impl Collecting for Control {
+    ghost control = { λ c. c };
+
+    ghost keeps = { λ _ _. Unit {0} };
+
+    ghost stays = { λ _. tt };
+
+    fn mode(&self) -> Mode {
+        self.mode
+    }
+
+    fn marks(&self) -> Marks {
+        self.marks
+    }
+
+    fn raise(&mut self, marks: Marks) {
+        self.marks = self.marks.union(marks);
+    }
+}
 
 impl Control {
     /// Sets the mode, for good.
@@ -12,13 +33,6 @@ impl Control {
         ensures { self.new ≡ in_mode self.old mode }
     {
         self.mode = mode;
-    }
-
-    /// Adds marks to those raised so far.
-    pub fn raise(&mut self, marks: Marks)
-        ensures { self.new ≡ raised self.old marks }
-    {
-        self.marks = self.marks.union(marks);
     }
 
     /// Sets a mode for a while: until the span's end, when the earlier mode comes back.

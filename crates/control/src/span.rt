@@ -1,6 +1,7 @@
-ghost use Rattle.std.specs.Prelude.{◌≡◌};
-ghost use Rattle.control.specs.Controls.{in_mode, raised};
+ghost use Rattle.std.specs.Prelude.{◌≡◌, refl};
+ghost use Rattle.control.specs.Controls.{in_mode};
 
+use crate::collecting::Collecting;
 use crate::control::Control;
 use single::marks::Marks;
 use single::mode::Mode;
@@ -24,27 +25,23 @@ impl Drop for Span<'_> {
     }
 }
 
-impl Span<'_> {
-    /// Gives the mode.
-    pub fn mode(&self) -> Mode
-        ensures { result ≡ self.now.control.now.mode }
-    {
+impl Collecting for Span<'_> {
+    ghost control = { λ s. s.control.now };
+
+    // The span keeps its control and the mode that comes back.
+    ghost keeps = { λ before after. (after.control.ghost_name ≡ before.control.ghost_name) × (after.earlier ≡ before.earlier) };
+
+    ghost stays = { λ _. (refl, refl) };
+
+    fn mode(&self) -> Mode {
         self.control.mode()
     }
 
-    /// Gives the marks raised so far, those before the span among them.
-    pub fn marks(&self) -> Marks
-        ensures { result ≡ self.now.control.now.marks }
-    {
+    fn marks(&self) -> Marks {
         self.control.marks()
     }
 
-    /// Adds marks to those raised so far.
-    pub fn raise(&mut self, marks: Marks)
-        ensures same { self.new.control.ghost_name ≡ self.old.control.ghost_name }
-        ensures earlier { self.new.earlier ≡ self.old.earlier }
-        ensures adds { self.new.control.now ≡ raised self.old.control.now marks }
-    {
+    fn raise(&mut self, marks: Marks) {
         self.control.raise(marks);
     }
 }
