@@ -10,6 +10,7 @@ pub enum Shift {
 
 impl Shift {
     /// Counts the places.
+    // no `From`: the name says what is counted, and `u32::from` would not
     pub fn places(self) -> u32
         ensures { result ≡ places self }
     {

@@ -13,6 +13,7 @@ pub enum Sign {
 
 impl Sign {
     /// Tells the sign of 64 bits in two's complement.
+    // no `From`: 64 bits have a sign only as a number in two's complement
     pub(crate) fn of(bits: u64) -> Sign
         ensures { result ≡ sign_of (signed bits) }
     {

@@ -15,7 +15,8 @@ pub struct Words {
 }
 
 impl Words {
-    /// Puts a number's 64 bits into the first word.
+    /// Puts a number's 64 bits into the first word, as the three delivered forms do.
+    // the trait has no default body for it: that would have to promise it of every form, and others set their words otherwise
     pub(crate) fn in_first(n: i64) -> Words
         ensures { result ≡ in_first n }
     {
@@ -25,7 +26,8 @@ impl Words {
         }
     }
 
-    /// Shifts both words left.
+    /// Shifts both words left, as the three delivered forms do.
+    // the trait has no default body for it, as for setting
     pub(crate) fn shifted(self, by: Shift) -> Words
         ensures { result ≡ shifted (places by) self }
     {

@@ -125,7 +125,7 @@ after S F K Q x p u o t =
     let q = digit_at S F (K + Q) u o in
     at K Q x p (reduced F q (pos (x * 2 ^ p)) o (F.shift S.bits u)) (F.add (terms q (pos (x * 2 ^ p))).once o) (appended (radix S) q p t)
 
-not_less : (m n : ℕ) → n ≤ m → ltb m n ≡ false
+pub not_less : (m n : ℕ) → n ≤ m → ltb m n ≡ false
 not_less m n h = grind (arith, nat_tests)
 
 -- a turn with room for a digit makes it at its place

@@ -13,7 +13,7 @@ pub(crate) fn at_place(factor: u64, place: u32) -> i64
 }
 
 impl Terms {
-    /// Works out what a digit adds.
+    /// Works out what a digit adds, by its operand term.
     pub(crate) fn of(digit: i64, term: i64) -> Terms
         requires digit_fits { (neg_ℤ (pos 4) <ℤ digit) × (digit <ℤ pos 4) }
         requires term_fits { (pos 0 ≤ℤ term) × (term ≤ℤ pos (2 ^ 56)) }

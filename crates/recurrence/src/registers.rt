@@ -42,7 +42,7 @@ pub struct Choice {
 #[derive(Clone, Copy, Drop, PartialEq, Eq, Debug)]
 pub struct Outcome {
     pub f: u32,
-    /// Whether f / 2^Q is the reciprocal root itself.
+    /// Whether f / 2^Q is the reciprocal root itself; f is there in both cases, so no `Option` says it.
     pub exact: bool,
 }
 

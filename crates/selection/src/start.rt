@@ -11,6 +11,7 @@ pub enum Start {
 
 impl Start {
     /// Counts the start in halves.
+    // no `From`: the name says what is counted, and `u32::from` would not
     pub fn halves(self) -> u32
         ensures { result ≡ halves self }
     {

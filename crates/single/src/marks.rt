@@ -3,7 +3,7 @@ ghost use Rattle.single.specs.MarkSets.{number, union};
 
 use std::fmt;
 
-/// The marks that a result raises, IEEE 754's flags.
+/// The marks that a result raises, IEEE 754's flags. Each is raised or not apart from the others, so they are three flags and no enum.
 #[derive(Clone, Copy, Drop, PartialEq, Eq, Debug)]
 pub struct Marks {
     pub inexact: bool,
@@ -38,6 +38,7 @@ impl Marks {
     };
 
     /// Gives the marks' number: 1 for inexact, 2 for invalid and 4 for division by zero, added.
+    // no `From`: the name says which number, and `u32::from` would not
     pub fn number(self) -> u32
         ensures is { result ≡ number self }
         ensures small { result < 8 }

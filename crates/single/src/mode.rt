@@ -49,6 +49,7 @@ impl fmt::Display for Mode {
 
 impl ModeRefusal {
     /// Gives the number by which the refusal is told to callers.
+    // no `From`: the name says which number, and `u32::from` would not
     pub fn number(self) -> u32
         ensures { result ≡ number self }
     {

@@ -1,9 +1,9 @@
-use Rattle.std.proofs.Common.{◌≡◌, ℕ, ◌+◌, ◌-◌, ◌*◌, ◌^◌, ◌≤◌, false, ltb, ℤ, pos, neg_ℤ, ◌<ℤ◌, sym, ap, ◌∙◌, subst, arith, pow_mono, pow-add, w64, SFits, to_z, of_z, rules}
+use Rattle.std.proofs.Common.{◌≡◌, ℕ, ◌+◌, ◌-◌, ◌*◌, ◌^◌, ◌≤◌, false, ℤ, pos, neg_ℤ, ◌<ℤ◌, sym, ap, ◌∙◌, subst, arith, pow_mono, pow-add, w64, SFits, to_z, of_z, rules}
 use Rattle.std.proofs.lemmas.Int.{ints, to_z-of_z}
-use Rattle.std.proofs.lemmas.Bool.Decides.{nat_tests}
 use Rattle.recurrence.specs.declared.registers.Partial.{Partial}
 use Rattle.recurrence.specs.Recurrence.{complete, next_s, next_below}
 use Rattle.recurrence.proofs.Conversion.{converted}
+use Rattle.recurrence.proofs.Recurring.{not_less}
 use Rattle.recurrence.proofs.Turning.{assembled, chosen_if}
 use Rattle.recurrence.proofs.running.Running.turn.Goals as goal
 
@@ -58,9 +58,6 @@ invariant_of-self g c =
       most = subst (λ k. k + 2 ^ p ≤ 2 ^ (before.q + 2)) (sym s_is) v.most;
       below = ap (λ k. k + 2 ^ p) below_is ∙ v.below ∙ sym s_is;
     }
-
-not_less : (m n : ℕ) → n ≤ m → ltb m n ≡ false
-not_less m n h = grind (arith, nat_tests)
 
 pub returns : goal.returns
 returns g c =
