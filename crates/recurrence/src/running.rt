@@ -3,7 +3,7 @@ ghost use Rattle.std.specs.Prelude.{◌≡◌, ◌+◌, ◌^◌, ◌≤◌};
 use crate::registers::Registers;
 
 /// A job under way. Its invariant holds for every selector, and makes every sum of a turn safe.
-#[derive(Clone, Copy, Drop)]
+#[derive(Clone, Copy, Drop, PartialEq, Eq, Debug)]
 pub struct Running {
     pub(crate) registers: Registers,
     ghost width: { (4 ≤ registers.k) × (registers.k ≤ 28) },

@@ -1,7 +1,7 @@
 ghost use Rattle.std.specs.Prelude.{◌≡◌, ◌-◌, ◌%◌, ◌^◌, ◌<◌, ◌≤◌};
 
 /// A fixed-point operand X = x / 2^K of width K, whose reciprocal root is worked out to Q places. X lies from 1/4 up to, not including, 1.
-#[derive(Clone, Copy, Drop)]
+#[derive(Clone, Copy, Drop, PartialEq, Eq, Debug)]
 pub struct Operand {
     pub k: u32,
     pub q: u32,

@@ -1,7 +1,7 @@
 ghost use Rattle.std.specs.Prelude.{◌^◌, ◌<◌, ◌≤◌, pos, negsuc, ◌≤ℤ◌};
 
 /// A positive number m 2^(E - 150), by its significand m of 24 bits and its signed exponent E.
-#[derive(Clone, Copy, Drop)]
+#[derive(Clone, Copy, Drop, PartialEq, Eq, Debug)]
 pub struct Positive {
     pub significand: u32,
     pub exponent: i32,
