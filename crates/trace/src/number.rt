@@ -1,55 +1,50 @@
+ghost use Rattle.std.specs.Prelude.{◌≤◌};
+
 use number_form::words::Words;
 use std::fmt;
 
-/// A number n / 2^places, shown in binary with all its places.
-#[derive(Drop)]
-pub(crate) struct Binary {
+/// A number n / 2^places, shown as the decimal fraction that it is.
+#[derive(Clone, Copy, Drop)]
+pub(crate) struct Fixed {
     pub(crate) n: u32,
     pub(crate) places: u32,
+    ghost few: { places ≤ 28 },
 }
 
-/// A number n / 2^places, shown as the decimal fraction that it is.
+/// The same, shown in binary with all its places.
 #[derive(Drop)]
-pub(crate) struct Decimal {
-    pub(crate) n: u32,
-    pub(crate) places: u32,
+pub(crate) struct Binary(pub(crate) Fixed);
+
+impl Fixed {
+    /// Splits n at its point.
+    fn split(&self) -> (u32, u32) {
+        (self.n >> self.places, self.n & ((1 << self.places) - 1))
+    }
+}
+
+impl fmt::Display for Fixed {
+    fn fmt<W: fmt::Write>(&self, f: &mut fmt::Formatter<W>) -> fmt::Result {
+        let (whole, part) = self.split();
+        // an odd number over 2^p is 5^p times that number over 10^p
+        let even = part.trailing_zeros().min(self.places);
+        let places = self.places - even;
+        let digits = u128::from(part >> even) * 5u128.pow(places);
+        let width = places as usize;
+        write!(f, "{whole}.{digits:0width$}")
+    }
+}
+
+impl fmt::Display for Binary {
+    fn fmt<W: fmt::Write>(&self, f: &mut fmt::Formatter<W>) -> fmt::Result {
+        let (whole, part) = self.0.split();
+        let width = self.0.places as usize;
+        write!(f, "{whole:b}.{part:0width$b}")
+    }
 }
 
 /// Both words of a number, shown in hexadecimal.
 #[derive(Drop)]
 pub(crate) struct Hexadecimal(pub(crate) Words);
-
-impl fmt::Display for Binary {
-    fn fmt<W: fmt::Write>(&self, f: &mut fmt::Formatter<W>) -> fmt::Result {
-        let places = self.places.min(31);
-        let whole = self.n >> places;
-        write!(f, "{whole:b}.")?;
-        for i in 0..places {
-            let bit = (self.n >> (places - 1 - i)) & 1;
-            write!(f, "{bit}")?;
-        }
-        Ok(())
-    }
-}
-
-impl fmt::Display for Decimal {
-    fn fmt<W: fmt::Write>(&self, f: &mut fmt::Formatter<W>) -> fmt::Result {
-        let places = self.places.min(31);
-        let whole = self.n >> places;
-        write!(f, "{whole}.")?;
-        let mut rest = u64::from(self.n & ((1 << places) - 1));
-        for _ in 0..places.max(1) {
-            let tenfold = (rest & 0xffff_ffff) * 10;
-            let digit = tenfold >> places;
-            write!(f, "{digit}")?;
-            rest = tenfold & ((1 << places) - 1);
-            if rest == 0 {
-                break;
-            }
-        }
-        Ok(())
-    }
-}
 
 impl fmt::Display for Hexadecimal {
     fn fmt<W: fmt::Write>(&self, f: &mut fmt::Formatter<W>) -> fmt::Result {

@@ -1,7 +1,9 @@
 use crate::trouble::Trouble;
 use selection::operand::Operand;
 use single::mode::Mode;
+use std::alloc::Global;
 use std::env;
+use std::rt::Env;
 
 /// What `trace help` prints.
 pub(crate) const HELP: &str = "trace works one job off and prints every digit.
@@ -13,14 +15,14 @@ MAKE is a radix, radix2 or radix4, and a form, plain, carry-save or borrow-save;
 MODE is nearest, toward-zero, up or down; left out, nearest.";
 
 /// The radix of the selector.
-#[derive(Clone, Copy, Drop)]
+#[derive(Clone, Copy, Drop, PartialEq, Eq, Debug)]
 pub(crate) enum Radix {
     Two,
     Four,
 }
 
 /// The number form.
-#[derive(Clone, Copy, Drop)]
+#[derive(Clone, Copy, Drop, PartialEq, Eq, Debug)]
 pub(crate) enum Form {
     Plain,
     CarrySave,
@@ -43,19 +45,27 @@ pub(crate) struct Request {
     pub(crate) task: Task,
 }
 
+/// The kinds of task. Where the arguments name several, the last of them here is meant.
+#[derive(Clone, Copy, Drop, PartialEq, Eq, PartialOrd, Ord, Debug)]
+enum Kind {
+    Fixed,
+    Single,
+    Help,
+}
+
 /// What the arguments name, apart from numbers.
-#[derive(Clone, Copy, Drop)]
+#[derive(Clone, Copy, Drop, PartialEq, Eq, Debug)]
 struct Named {
     radix: Radix,
     form: Form,
     mode: Mode,
-    help: bool,
-    single: bool,
+    kind: Kind,
 }
 
 impl Named {
     /// Takes a word that names something; answers false for any other.
     fn take(&mut self, word: &str) -> bool {
+        // one match is plainer than a `FromStr` for each of four enums, tried in turn; Mode's could not stand in this crate
         match word {
             "radix2" => self.radix = Radix::Two,
             "radix4" => self.radix = Radix::Four,
@@ -66,8 +76,8 @@ impl Named {
             "toward-zero" => self.mode = Mode::TowardZero,
             "up" => self.mode = Mode::Up,
             "down" => self.mode = Mode::Down,
-            "help" => self.help = true,
-            "single" => self.single = true,
+            "help" => self.kind = self.kind.max(Kind::Help),
+            "single" => self.kind = self.kind.max(Kind::Single),
             _ => return false,
         }
         true
@@ -75,26 +85,24 @@ impl Named {
 }
 
 /// Reads the request from the arguments.
-pub(crate) fn read(rt: &HostRuntime) -> Result<Request, Trouble> {
+pub(crate) fn read(rt: &(impl Env + AllocGlobal)) -> Result<Request, Trouble> {
+    let alloc = rt.alloc();
     let mut named = Named {
         radix: Radix::Two,
         form: Form::Plain,
         mode: Mode::Nearest,
-        help: false,
-        single: false,
+        kind: Kind::Fixed,
     };
-    let mut words: Vec<String> = Vec::new(rt.alloc());
+    let mut words = Vec::new(alloc);
     for word in env::args(rt)?.skip(1) {
-        if !named.take(word.as_str()) {
+        if !named.take(&word) {
             words.push(word)?;
         }
     }
-    let task = if named.help {
-        Task::Help
-    } else if named.single {
-        read_single(rt, words.as_slice(), named.mode)?
-    } else {
-        read_fixed(rt, words.as_slice())?
+    let task = match named.kind {
+        Kind::Fixed => read_fixed(alloc, &words)?,
+        Kind::Single => read_single(&words, named.mode)?,
+        Kind::Help => Task::Help,
     };
     Ok(Request {
         radix: named.radix,
@@ -103,37 +111,34 @@ pub(crate) fn read(rt: &HostRuntime) -> Result<Request, Trouble> {
     })
 }
 
-fn read_single(rt: &HostRuntime, words: &[String], mode: Mode) -> Result<Task, Trouble> {
+/// Reads a fixed-point operand.
+fn read_fixed(alloc: Global, words: &[String]) -> Result<Task, Trouble> {
+    let (k, q, x) = match words {
+        [] => (4, 4, 8),
+        [k, q, x] => (
+            read_number(alloc, k)?,
+            read_number(alloc, q)?,
+            read_number(alloc, x)?,
+        ),
+        _ => return Err(Trouble::Usage),
+    };
+    Ok(Task::Fixed(Operand::new(k, q, x)?))
+}
+
+/// Reads the word of a single.
+fn read_single(words: &[String], mode: Mode) -> Result<Task, Trouble> {
     let [word] = words else {
         return Err(Trouble::Usage);
     };
-    match u32::from_str_radix(word.as_str(), 16) {
-        Ok(bits) => Ok(Task::Single(bits, mode)),
-        Err(_) => Err(Trouble::NoWord(word.clone()?)),
-    }
+    let bits = u32::from_str_radix(word, 16).try_map_err(|_| -> Result<Trouble, Trouble> {
+        Ok(Trouble::NoWord(word.clone()?))
+    })?;
+    Ok(Task::Single(bits, mode))
 }
 
-fn read_fixed(rt: &HostRuntime, words: &[String]) -> Result<Task, Trouble> {
-    match words {
-        [] => check_operand(4, 4, 8),
-        [k, q, x] => {
-            let k = read_number(rt, k.as_str())?;
-            let q = read_number(rt, q.as_str())?;
-            let x = read_number(rt, x.as_str())?;
-            check_operand(k, q, x)
-        }
-        _ => Err(Trouble::Usage),
-    }
-}
-
-fn read_number(rt: &HostRuntime, word: &str) -> Result<u32, Trouble> {
-    match word.parse::<u32>() {
-        Ok(number) => Ok(number),
-        Err(_) => Err(Trouble::NoNumber(word.to_string(rt.alloc())?)),
-    }
-}
-
-/// Checks the operand.
-fn check_operand(k: u32, q: u32, x: u32) -> Result<Task, Trouble> {
-    Ok(Task::Fixed(Operand::new(k, q, x)?))
+/// Reads a number.
+fn read_number(alloc: Global, word: &str) -> Result<u32, Trouble> {
+    word.parse::<u32>().try_map_err(|_| -> Result<Trouble, Trouble> {
+        Ok(Trouble::NoNumber(word.to_string(alloc)?))
+    })
 }

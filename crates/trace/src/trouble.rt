@@ -1,62 +1,24 @@
 use selection::refusal::Refusal;
-use std::alloc::{AllocError, AllocFailed};
-use std::{fmt, io};
+use std::alloc::AllocError;
+use std::io;
+use thiserror::Error;
 
 const USAGE: &str =
     "usage: trace [MAKE] [K Q x], or trace [MAKE] single WORD [MODE]; trace help says more";
 
 /// Why a call of the program ends without its work done.
-#[derive(Drop)]
+#[derive(Debug, Drop, Error)]
 pub(crate) enum Trouble {
+    #[error("{USAGE}")]
     Usage,
+    #[error("{0} is not the word of a single in hexadecimal; {USAGE}")]
     NoWord(String),
+    #[error("{0} is not a number below 2^32; {USAGE}")]
     NoNumber(String),
-    Refused(Refusal),
-    Memory(AllocError),
-    Failed(io::Error),
-}
-
-impl fmt::Display for Trouble {
-    fn fmt<W: fmt::Write>(&self, f: &mut fmt::Formatter<W>) -> fmt::Result {
-        match self {
-            Trouble::Usage => write!(f, "{USAGE}"),
-            Trouble::NoWord(word) => {
-                write!(
-                    f,
-                    "{word} is not the word of a single in hexadecimal; {USAGE}"
-                )
-            }
-            Trouble::NoNumber(word) => write!(f, "{word} is not a number below 2^32; {USAGE}"),
-            Trouble::Refused(refusal) => {
-                let number = refusal.number();
-                write!(f, "refused by {number}: {refusal}")
-            }
-            Trouble::Memory(error) => write!(f, "{error}"),
-            Trouble::Failed(error) => write!(f, "{error}"),
-        }
-    }
-}
-
-impl From<Refusal> for Trouble {
-    fn from(refusal: Refusal) -> Trouble {
-        Trouble::Refused(refusal)
-    }
-}
-
-impl From<io::Error> for Trouble {
-    fn from(error: io::Error) -> Trouble {
-        Trouble::Failed(error)
-    }
-}
-
-impl From<AllocError> for Trouble {
-    fn from(error: AllocError) -> Trouble {
-        Trouble::Memory(error)
-    }
-}
-
-impl<T: Drop> From<AllocFailed<T>> for Trouble {
-    fn from(failed: AllocFailed<T>) -> Trouble {
-        Trouble::from(AllocError::from(failed))
-    }
+    #[error("refused by {}: {}", .0.number(), .0)]
+    Refused(#[from] Refusal),
+    #[error(transparent)]
+    Memory(#[from(alloc)] AllocError),
+    #[error(transparent)]
+    Failed(#[from] io::Error),
 }
