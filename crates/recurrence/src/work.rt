@@ -58,12 +58,10 @@ impl Job {
         ensures tells { result ≡ turn_told (S.Selector.model make.now.selector) (F.NumberForm.model make.now.form) (seen self.old) }
         ensures after { seen self.new ≡ job_turned (S.Selector.model make.now.selector) (F.NumberForm.model make.now.form) (seen self.old) }
     {
-        let Job::Running(mut running) = *self else {
-            return None;
-        };
-        let choice = running.turn(make);
-        *self = Job::Running(running);
-        choice
+        match self {
+            Job::Settled(_) => None,
+            Job::Running(running) => running.turn(make),
+        }
     }
 
     /// Counts the digits made.

@@ -6,6 +6,7 @@ use crate::refusal::Refusal;
 
 impl Operand {
     /// Checks the width K, the places Q and the number x, in this order.
+    // one by one: the three are an operand, and so a type, only once they are checked
     pub fn new(k: u32, q: u32, x: u32) -> Result<Operand, Refusal>
         ensures { Checked k q x result }
     {

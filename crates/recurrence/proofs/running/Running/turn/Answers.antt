@@ -1,4 +1,4 @@
-use Rattle.std.proofs.Common.{◌≡◌, ℕ, ◌+◌, ◌-◌, ◌*◌, ◌^◌, ◌≤◌, false, ℤ, pos, neg_ℤ, ◌<ℤ◌, sym, ap, ◌∙◌, subst, arith, pow_mono, pow-add, w64, SFits, to_z, of_z, rules}
+use Rattle.std.proofs.Common.{◌≡◌, ◌+◌, ◌-◌, ◌*◌, ◌^◌, ◌≤◌, false, ℤ, pos, neg_ℤ, ◌<ℤ◌, sym, ap, ◌∙◌, subst, arith, pow_mono, pow-add, w64, SFits, to_z, of_z, rules}
 use Rattle.std.proofs.lemmas.Int.{ints, to_z-of_z}
 use Rattle.recurrence.specs.declared.registers.Partial.{Partial}
 use Rattle.recurrence.specs.Recurrence.{complete, next_s, next_below}
