@@ -1,7 +1,7 @@
 use crate::marks::Marks;
 
 /// The result of an operation on singles: its word, and the marks raised.
-#[derive(Clone, Copy, Drop)]
+#[derive(Clone, Copy, Drop, PartialEq, Eq, Debug)]
 pub struct Answer {
     pub word: u32,
     pub marks: Marks,
