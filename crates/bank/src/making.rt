@@ -3,7 +3,7 @@ ghost use Rattle.protocol.specs.Operands.{make, Lawful};
 ghost use Rattle.protocol.specs.Bank.{new, answer, after};
 ghost use Rattle.protocol.specs.Promise.{RefusalsLeave, HoldersShare};
 ghost use Rattle.lanes.specs.Seen.{seen};
-ghost use Rattle.lanes.specs.Replies.{done, FewShown};
+ghost use Rattle.lanes.specs.Replies.{FewShown};
 ghost use Rattle.protocol.specs.declared.call.Call.TheVariants.{Ask};
 
 use crate::bank::Bank;
@@ -34,7 +34,7 @@ impl<S: Selector, F: NumberForm> Bank<S, F> {
     }
 
     /// Makes one of the eight calls.
-    pub fn answer(&mut self, call: Call) -> Reply
+    pub fn answer(&mut self, call: Call) -> Result<Reply, Refusal>
         ensures few { FewShown result }
         ensures answers { result ≡ answer (make (S.Selector.model self.old.selector) (F.NumberForm.model self.old.form)) (seen self.old.lanes) call }
         ensures leaves { seen self.new.lanes ≡ after (make (S.Selector.model self.old.selector) (F.NumberForm.model self.old.form)) (seen self.old.lanes) call }
@@ -42,17 +42,16 @@ impl<S: Selector, F: NumberForm> Bank<S, F> {
         ensures form { self.new.form ≡ self.old.form }
     {
         match call {
-            Call::Tick { time } => done(self.tick(time)),
-            Call::Take { lane, ticks } => match self.take(lane, ticks) {
-                Ok(serial) => Reply::Took { serial },
-                Err(refusal) => Reply::Refused(refusal),
-            },
+            Call::Tick { time } => self.tick(time).and(Ok(Reply::Done)),
+            Call::Take { lane, ticks } => Ok(Reply::Took {
+                serial: self.take(lane, ticks)?,
+            }),
             Call::Ask { name, request } => self.answer_request(name, request),
         }
     }
 
     /// Makes one of the six calls with a hold.
-    fn answer_request(&mut self, name: Name, request: Request) -> Reply
+    fn answer_request(&mut self, name: Name, request: Request) -> Result<Reply, Refusal>
         ensures few { FewShown result }
         ensures answers { result ≡ answer (make (S.Selector.model self.old.selector) (F.NumberForm.model self.old.form)) (seen self.old.lanes) (Ask name request) }
         ensures leaves { seen self.new.lanes ≡ after (make (S.Selector.model self.old.selector) (F.NumberForm.model self.old.form)) (seen self.old.lanes) (Ask name request) }
@@ -60,32 +59,17 @@ impl<S: Selector, F: NumberForm> Bank<S, F> {
         ensures form { self.new.form ≡ self.old.form }
     {
         match request {
-            Request::Load { k, q, x } => done(self.load(name, k, q, x)),
-            Request::Load32 { word } => done(self.load32(name, word)),
-            Request::Step { count } => match self.step(name, count) {
-                Ok(digits) => Reply::Stepped { digits },
-                Err(refusal) => Reply::Refused(refusal),
-            },
-            Request::Look => match self.look(name) {
-                Ok((made, s)) => Reply::Shown { made, s },
-                Err(refusal) => Reply::Refused(refusal),
-            },
-            Request::Collect { mode } => match self.collect(name, mode) {
-                Ok(answer) => Reply::Told(answer),
-                Err(refusal) => Reply::Refused(refusal),
-            },
-            Request::Give => done(self.give(name)),
+            Request::Load { k, q, x } => self.load(name, k, q, x).and(Ok(Reply::Done)),
+            Request::Load32 { word } => self.load32(name, word).and(Ok(Reply::Done)),
+            Request::Step { count } => Ok(Reply::Stepped {
+                digits: self.step(name, count)?,
+            }),
+            Request::Look => {
+                let (made, s) = self.look(name)?;
+                Ok(Reply::Shown { made, s })
+            }
+            Request::Collect { mode } => Ok(Reply::Told(self.collect(name, mode)?)),
+            Request::Give => self.give(name).and(Ok(Reply::Done)),
         }
-    }
-}
-
-/// Gives the reply to a call that tells nothing when it is accepted.
-fn done(res: Result<(), Refusal>) -> Reply
-    ensures is { result ≡ done res }
-    ensures few { FewShown result }
-{
-    match res {
-        Ok(()) => Reply::Done,
-        Err(refusal) => Reply::Refused(refusal),
     }
 }

@@ -99,16 +99,14 @@ impl Hold {
         ensures selector { bank.new.selector ≡ bank.old.selector }
         ensures form { bank.new.form ≡ bank.old.form }
     {
-        match bank.collect(self.name(), control.mode()) {
-            Ok(answer) => {
-                control.raise(answer.marks);
-                Ok(answer)
-            }
-            Err(refusal) => Err(Rejected {
+        let answer = bank
+            .collect(self.name(), control.mode())
+            .map_err(|refusal| Rejected {
                 hold: self,
                 refusal,
-            }),
-        }
+            })?;
+        control.raise(answer.marks);
+        Ok(answer)
     }
 
     /// Collects in a span: tells word and marks in the span's mode, adds the marks to its control, frees the lane and uses up the hold.
@@ -124,16 +122,14 @@ impl Hold {
         ensures selector { bank.new.selector ≡ bank.old.selector }
         ensures form { bank.new.form ≡ bank.old.form }
     {
-        match bank.collect(self.name(), span.mode()) {
-            Ok(answer) => {
-                span.raise(answer.marks);
-                Ok(answer)
-            }
-            Err(refusal) => Err(Rejected {
+        let answer = bank
+            .collect(self.name(), span.mode())
+            .map_err(|refusal| Rejected {
                 hold: self,
                 refusal,
-            }),
-        }
+            })?;
+        span.raise(answer.marks);
+        Ok(answer)
     }
 
     /// Frees the lane and uses up the hold.
@@ -143,12 +139,9 @@ impl Hold {
         ensures selector { bank.new.selector ≡ bank.old.selector }
         ensures form { bank.new.form ≡ bank.old.form }
     {
-        match bank.give(self.name()) {
-            Ok(()) => Ok(()),
-            Err(refusal) => Err(Rejected {
-                hold: self,
-                refusal,
-            }),
-        }
+        bank.give(self.name()).map_err(|refusal| Rejected {
+            hold: self,
+            refusal,
+        })
     }
 }

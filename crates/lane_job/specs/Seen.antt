@@ -4,7 +4,7 @@ use Rattle.recurrence.specs.Recurrence as recurrence
 use Rattle.single.specs.declared.answer.Answer.{Answer}
 use Rattle.protocol.specs.declared.refusal.Refusal.{Refusal}
 use Rattle.protocol.specs.declared.call.Reply.{Reply}
-use Rattle.protocol.specs.declared.call.Reply.TheVariants.{Refused, Done, Stepped, Shown, Told}
+use Rattle.protocol.specs.declared.call.Reply.TheVariants.{Done, Stepped, Shown, Told}
 use Rattle.protocol.specs.Jobs.{Job}
 use Rattle.protocol.specs.Jobs.Job.{settled, fixed, single}
 use Rattle.protocol.specs.Bank.{Served}
@@ -23,21 +23,27 @@ seen_option (Some job) = Some (seen_job job)
 
 -- ---- what a request does to the job of its hold, by the result of the code
 
+abbrev pub served : {A : Type 0} → (A → Served) → Result A Refusal → Served
+served accepted (Ok x) = accepted x
+served accepted (Err r) = stopped r
+
 abbrev pub served_load : Result LaneJob Refusal → Served
-served_load (Ok job) = goes_on Done (seen_job job)
-served_load (Err r) = stopped r
+served_load res = served (λ job. goes_on Done (seen_job job)) res
 
 abbrev pub served_step : Result (ℕ × LaneJob) Refusal → Served
-served_step (Ok p) = goes_on (Stepped p.0) (seen_job p.1)
-served_step (Err r) = stopped r
+served_step res = served (λ p. goes_on (Stepped p.0) (seen_job p.1)) res
 
 abbrev pub served_collect : Result Answer Refusal → Served
-served_collect (Ok a) = frees (Told a)
-served_collect (Err r) = stopped r
+served_collect res = served (λ a. frees (Told a)) res
 
-abbrev pub shown : Result (ℕ × ℕ) Refusal → Reply
-shown (Ok p) = Shown p.0 p.1
-shown (Err r) = Refused r
+-- ---- results of the code as answers of the model
+
+abbrev pub lifted : {A : Type 0} → (A → Reply) → Result A Refusal → Result Reply Refusal
+lifted reply (Ok x) = Ok (reply x)
+lifted reply (Err r) = Err r
+
+abbrev pub shown : Result (ℕ × ℕ) Refusal → Result Reply Refusal
+shown res = lifted (λ p. Shown p.0 p.1) res
 
 -- a look shows at most 28 digits made
 abbrev pub FewMade : Result (ℕ × ℕ) Refusal → Type 0

@@ -26,10 +26,8 @@ pub fn serve_load<S: Selector, F: NumberForm>(
     if job.is_some() {
         return Err(Refusal::AlreadyLoaded);
     }
-    match Operand::new(k, q, x) {
-        Ok(operand) => Ok(LaneJob::begin(selector, form, operand)),
-        Err(refusal) => Err(Refusal::Operand(refusal)),
-    }
+    let operand = Operand::new(k, q, x)?;
+    Ok(LaneJob::begin(selector, form, operand))
 }
 
 /// Loads a single where no job is loaded.
@@ -56,9 +54,7 @@ pub fn serve_step<S: Selector, F: NumberForm>(
 ) -> Result<(u32, LaneJob), Refusal>
     ensures { served_step result ≡ serve (make (S.Selector.model selector.now) (F.NumberForm.model form.now)) (seen_option job) (Step count) }
 {
-    let Some(job) = job else {
-        return Err(Refusal::NoJob);
-    };
+    let job = job.ok_or(Refusal::NoJob)?;
     let digits = count.min(job.left(selector, form));
     Ok((digits, job.turns(selector, form, digits)))
 }
@@ -72,9 +68,7 @@ pub fn serve_look<S: Selector, F: NumberForm>(
     ensures is { shown result ≡ said (serve (make (S.Selector.model selector.now) (F.NumberForm.model form.now)) (seen_option job) Look) }
     ensures few { FewMade result }
 {
-    let Some(job) = job else {
-        return Err(Refusal::NoJob);
-    };
+    let job = job.ok_or(Refusal::NoJob)?;
     Ok((job.made(selector, form), job.partial()))
 }
 
@@ -87,11 +81,6 @@ pub fn serve_collect<S: Selector, F: NumberForm>(
 ) -> Result<Answer, Refusal>
     ensures { served_collect result ≡ serve (make (S.Selector.model selector.now) (F.NumberForm.model form.now)) (seen_option job) (Collect mode) }
 {
-    let Some(job) = job else {
-        return Err(Refusal::NoJob);
-    };
-    match job.told(selector, form, mode) {
-        Some(answer) => Ok(answer),
-        None => Err(Refusal::DigitsLeft),
-    }
+    let job = job.ok_or(Refusal::NoJob)?;
+    job.told(selector, form, mode).ok_or(Refusal::DigitsLeft)
 }

@@ -1,7 +1,9 @@
 ghost use Rattle.std.specs.Prelude.{◌≡◌, ◌≤◌};
+ghost use Rattle.std.specs.Option.{option_map};
+ghost use Rattle.recurrence.specs.Recurrence as recurrence;
 ghost use Rattle.protocol.specs.Operands.{make};
 ghost use Rattle.protocol.specs.Operands.Operand.{fixed, single};
-ghost use Rattle.protocol.specs.Jobs.{begun, turned, turns, made, left, partial, told, fixed_answer};
+ghost use Rattle.protocol.specs.Jobs.{begun, turned, turns, made, left, partial, told, fixed_answer, worked_by};
 ghost use Rattle.lane_job.specs.Seen.{seen_job};
 
 use crate::job::LaneJob;
@@ -71,10 +73,20 @@ impl LaneJob {
         ensures { seen_job result ≡ turns (make (S.Selector.model selector.now) (F.NumberForm.model form.now)) count (seen_job self) }
     {
         let mut job = self;
-        for i in 0..count {
+        for _ in 0..count {
             job = job.turn(selector, form);
         }
         job
+    }
+
+    /// Gives the recurrence's job that works it; a settled job has none.
+    fn worked_by(self) -> Option<Job>
+        ensures { option_map (λ job. recurrence.seen job) result ≡ worked_by (seen_job self) }
+    {
+        match self {
+            LaneJob::Settled(_) => None,
+            LaneJob::Fixed(job) | LaneJob::Single(_, job) => Some(job),
+        }
     }
 
     /// Counts the digits made.
@@ -82,33 +94,21 @@ impl LaneJob {
         ensures is { result ≡ made (make (S.Selector.model selector.now) (F.NumberForm.model form.now)) (seen_job self) }
         ensures few { result ≤ 28 }
     {
-        match self {
-            LaneJob::Settled(_) => 0,
-            LaneJob::Fixed(job) => job.made(selector),
-            LaneJob::Single(_, job) => job.made(selector),
-        }
+        self.worked_by().map_or(0, |job| job.made(selector))
     }
 
     /// Counts the digits left to make.
     pub(crate) fn left<S: Selector, F: NumberForm>(self, selector: &S, form: &F) -> u32
         ensures { result ≡ left (make (S.Selector.model selector.now) (F.NumberForm.model form.now)) (seen_job self) }
     {
-        match self {
-            LaneJob::Settled(_) => 0,
-            LaneJob::Fixed(job) => job.left(selector),
-            LaneJob::Single(_, job) => job.left(selector),
-        }
+        self.worked_by().map_or(0, |job| job.left(selector))
     }
 
     /// Gives the partial result.
     pub(crate) fn partial(self) -> u32
         ensures { result ≡ partial (seen_job self) }
     {
-        match self {
-            LaneJob::Settled(_) => 0,
-            LaneJob::Fixed(job) => job.partial_result(),
-            LaneJob::Single(_, job) => job.partial_result(),
-        }
+        self.worked_by().map_or(0, |job| job.partial_result())
     }
 
     /// Tells word and marks, once no digit is left to make.
@@ -122,29 +122,25 @@ impl LaneJob {
     {
         match self {
             LaneJob::Settled(answer) => Some(answer),
-            LaneJob::Fixed(job) => fixed_answer(job.outcome(selector, form)),
-            LaneJob::Single(number, job) => match job.outcome(selector, form) {
-                None => None,
-                Some(outcome) => Some(number.round(outcome, mode)),
-            },
+            LaneJob::Fixed(job) => job.outcome(selector, form).map(fixed_answer),
+            LaneJob::Single(number, job) => job
+                .outcome(selector, form)
+                .map(|outcome| number.round(outcome, mode)),
         }
     }
 }
 
 /// Tells what a fixed-point job came to.
-fn fixed_answer(outcome: Option<Outcome>) -> Option<Answer>
+fn fixed_answer(outcome: Outcome) -> Answer
     ensures { result ≡ fixed_answer outcome }
 {
-    let Some(outcome) = outcome else {
-        return None;
-    };
     let marks = if outcome.exact {
         Marks::NONE
     } else {
         Marks::INEXACT
     };
-    Some(Answer {
+    Answer {
         word: outcome.f,
         marks,
-    })
+    }
 }

@@ -1,39 +1,36 @@
--- What a write to the code's lanes is in the model.
-use Rattle.std.proofs.Common.{◌≡◌, ℕ, ◌+◌, ◌<◌, Bool, true, false, cond, eqb, ltb, List, length, get_or, set, sym, refl, ap, ◌∙◌, arith, eqb-true}
-use borrow.Author.Tests.{eqb-false}
-use Rattle.std.proofs.lemmas.List.{get_or-set_same, get_or-set_other}
+-- The code's lanes at a time, as the model has them.
+use Rattle.std.proofs.Common.{◌≡◌, ℕ, ◌≤◌, Bool, true, false, cond, leb, ltb, List, ◌++◌, Some, None, Option, map, length, get_or, take, drop, refl, ap, ◌∙◌, arith}
+use Rattle.std.proofs.lemmas.List.{take_all, drop_all, append-nil}
+use Rattle.std.specs.Bool.{then_some}
+use Rattle.std.proofs.Math.ListN.{get_or-map}
 use Rattle.std.proofs.lemmas.Bool.Decides.{nat_tests}
+use Rattle.lanes.specs.declared.lanes.Holder.{Holder}
 use Rattle.lanes.specs.declared.lanes.Lane.{Lane}
+use Rattle.lane_job.specs.Seen.{seen_option}
 use Rattle.protocol.specs.Bank.{expires}
-use Rattle.protocol.specs.Bank.Lane.{free}
-use Rattle.lanes.specs.Seen.{lane_of, lane_at, empty}
+use Rattle.protocol.specs.Bank.Lane.{free, held}
+use Rattle.lanes.specs.Seen.{lane_of, lane_at, empty, at_time}
 
-pub lane_here : (ls : List Lane) (i : ℕ) → i < 8 → lane_at ls i ≡ lane_of (get_or ls i empty).holder
-lane_here ls i l = let e : ltb i 8 ≡ true = grind (arith, nat_tests) in rw e
-
-pub written_here : (ls : List Lane) (i : ℕ) (l : Lane) → i < 8 → length ls ≡ 8 → lane_at (set ls i l) i ≡ lane_of l.holder
-written_here ls i l h n = lane_here (set ls i l) i h ∙ ap (λ (x : Lane). lane_of x.holder) (get_or-set_same ls i l empty (omega arith))
-
-pub written_elsewhere : (ls : List Lane) (i k : ℕ) (l : Lane) → eqb k i ≡ false → lane_at (set ls i l) k ≡ lane_at ls k
-written_elsewhere ls i k l e = ap (λ (x : Lane). cond (ltb k 8) (lane_of x.holder) free) (get_or-set_other ls i k l empty (eqb-false k i e))
-
--- the lanes below i have expired; then the lane at i does
-pub expiring : (before now : List Lane) (t i : ℕ) (l : Lane) → i < 8 → length now ≡ 8 →
-    ((k : ℕ) → lane_at now k ≡ cond (ltb k i) (expires t (lane_at before k)) (lane_at before k)) → lane_of l.holder ≡ expires t (lane_of (get_or now i empty).holder) →
-    (k : ℕ) → lane_at (set now i l) k ≡ cond (ltb k (i + 1)) (expires t (lane_at before k)) (lane_at before k)
-expiring before now t i l h n inv e k = go (eqb k i) refl
+expires_one : (t : ℕ) (o : Option Holder) → lane_of (at_time t (record { holder = o })).holder ≡ expires t (lane_of o)
+expires_one t None = refl
+expires_one t (Some h) = go (leb h.deadline t) refl
   where
-    go : (x : Bool) → eqb k i ≡ x → lane_at (set now i l) k ≡ cond (ltb k (i + 1)) (expires t (lane_at before k)) (lane_at before k)
-    go true q =
-        let same : k ≡ i = eqb-true k i q in
-        let below : ltb i (i + 1) ≡ true = grind (arith, nat_tests) in
-        let not_yet : ltb i i ≡ false = grind (arith, nat_tests) in
-        let was : lane_at now i ≡ lane_at before i = rw not_yet at (inv i) in
-        rw (same, below) (written_here now i l h n ∙ e ∙ ap (expires t) (sym (lane_here now i h) ∙ was))
-    go false q =
-        let alike : ltb k i ≡ ltb k (i + 1) = by (ltb k i) refl in
-        rw (sym alike) (written_elsewhere now i k l q ∙ inv k)
-      where
-        by : (x : Bool) → ltb k i ≡ x → ltb k i ≡ ltb k (i + 1)
-        by true p = let r : ltb k (i + 1) ≡ true = grind (arith, nat_tests) in p ∙ sym r
-        by false p = let r : ltb k (i + 1) ≡ false = grind (arith, nat_tests) in p ∙ sym r
+    go : (x : Bool) → leb h.deadline t ≡ x → lane_of (then_some (ltb t h.deadline) h) ≡ cond (leb h.deadline t) free (held h.serial h.deadline (seen_option h.job))
+    go true e = let past : ltb t h.deadline ≡ false = grind (arith, nat_tests) in rw (e, past)
+    go false e = let early : ltb t h.deadline ≡ true = grind (arith, nat_tests) in rw (e, early)
+
+expires_all : (t : ℕ) (lanes : List Lane) (i : ℕ) → lane_at (map (at_time t) lanes) i ≡ expires t (lane_at lanes i)
+expires_all t lanes i = go (ltb i 8) refl
+  where
+    go : (x : Bool) → ltb i 8 ≡ x → lane_at (map (at_time t) lanes) i ≡ expires t (lane_at lanes i)
+    go true e = rw e (ap (λ (l : Lane). lane_of l.holder) (get_or-map (at_time t) lanes i empty) ∙ expires_one t (get_or lanes i empty).holder)
+    go false e = rw e
+
+-- all lanes of a loop that brings one after the other to a time
+pub expired : (t : ℕ) (before now : List Lane) (i : ℕ) → length before ≤ i → now ≡ map (at_time t) (take i before) ++ drop i before →
+    (k : ℕ) → lane_at now k ≡ expires t (lane_at before k)
+expired t before now i h e k =
+    let none = drop_all i before h in
+    let all = take_all i before h in
+    let whole : map (at_time t) (take i before) ++ drop i before ≡ map (at_time t) before = rw (none, all) (append-nil (map (at_time t) before)) in
+    ap (λ (ls : List Lane). lane_at ls k) (e ∙ whole) ∙ expires_all t before k

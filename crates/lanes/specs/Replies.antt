@@ -1,34 +1,31 @@
--- Results of the code as replies of the model.
+-- Results of the code as answers of the model.
 use Rattle.std.specs.Prelude.{ℕ, ◌<◌, ◌≤◌, Ok, Err, Result}
 use Rattle.single.specs.declared.answer.Answer.{Answer}
 use Rattle.protocol.specs.declared.refusal.Refusal.{Refusal}
 use Rattle.protocol.specs.declared.call.Reply.{Reply}
-use Rattle.protocol.specs.declared.call.Reply.TheVariants.{Refused, Done, Took, Stepped, Shown, Told}
+use Rattle.protocol.specs.declared.call.Reply.TheVariants.{Done, Took, Stepped, Shown, Told}
+use Rattle.lane_job.specs.Seen.{lifted}
 
-abbrev pub done : Result (Unit {0}) Refusal → Reply
-done (Ok u) = Done
-done (Err r) = Refused r
+abbrev pub done : Result (Unit {0}) Refusal → Result Reply Refusal
+done res = lifted (λ _. Done) res
 
-abbrev pub took : Result ℕ Refusal → Reply
-took (Ok serial) = Took serial
-took (Err r) = Refused r
+abbrev pub took : Result ℕ Refusal → Result Reply Refusal
+took res = lifted Took res
 
-abbrev pub stepped : Result ℕ Refusal → Reply
-stepped (Ok digits) = Stepped digits
-stepped (Err r) = Refused r
+abbrev pub stepped : Result ℕ Refusal → Result Reply Refusal
+stepped res = lifted Stepped res
 
-abbrev pub told : Result Answer Refusal → Reply
-told (Ok a) = Told a
-told (Err r) = Refused r
+abbrev pub told : Result Answer Refusal → Result Reply Refusal
+told res = lifted Told res
 
 -- a bank shows at most 28 digits made
-abbrev pub FewShown : Reply → Type 0
-FewShown (Refused r) = Unit {0}
-FewShown Done = Unit {0}
-FewShown (Took serial) = Unit {0}
-FewShown (Stepped n) = Unit {0}
-FewShown (Shown n s) = n ≤ 28
-FewShown (Told a) = Unit {0}
+abbrev pub FewShown : Result Reply Refusal → Type 0
+FewShown (Ok Done) = Unit {0}
+FewShown (Ok (Took serial)) = Unit {0}
+FewShown (Ok (Stepped n)) = Unit {0}
+FewShown (Ok (Shown n s)) = n ≤ 28
+FewShown (Ok (Told a)) = Unit {0}
+FewShown (Err r) = Unit {0}
 
 -- a hold that is told a result has one of the eight lanes
 abbrev pub ToldBelowEight : ℕ → Result Answer Refusal → Type 0

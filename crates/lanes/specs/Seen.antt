@@ -1,5 +1,6 @@
 -- The code's lanes as the model has them.
-use Rattle.std.specs.Prelude.{ℕ, ◌<◌, cond, List, Some, None, Ok, Err, Option, Result, ◌==◌, nat_lt, slice_index_or}
+use Rattle.std.specs.Prelude.{ℕ, ◌<◌, cond, List, Some, None, Ok, Err, Option, Result, ◌==◌, nat_lt, slice_index_or, option_and_then}
+use Rattle.std.specs.Bool.{then_some}
 use Rattle.lane_job.specs.Seen.{seen_option}
 use Rattle.lanes.specs.declared.lanes.Holder.{Holder}
 use Rattle.lanes.specs.declared.lanes.Lane.{Lane}
@@ -24,6 +25,10 @@ lane_at lanes i = cond (nat_lt i 8) (lane_of (slice_index_or lanes i empty).hold
 
 abbrev pub seen : Lanes → Bank
 seen l = record { time = l.clock; next = l.next; lane = lane_at l.lanes }
+
+-- a lane as it stands at a time: free from the deadline on
+abbrev pub at_time : ℕ → Lane → Lane
+at_time t l = record { holder = option_and_then (λ (h : Holder). then_some (nat_lt t h.deadline) h) l.holder }
 
 -- a bank with one lane written
 abbrev pub put : ℕ → bank.Lane → Bank → Bank

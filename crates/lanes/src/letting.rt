@@ -1,8 +1,8 @@
-ghost use Rattle.std.specs.Prelude.{◌≡◌, ℕ, ◌<◌, ◌≤◌, Some};
+ghost use Rattle.std.specs.Prelude.{◌≡◌, ◌<◌, ◌≤◌, Some};
 ghost use Rattle.protocol.specs.declared.call.Call.TheVariants.{Tick, Take};
 ghost use Rattle.protocol.specs.Operands.{Make};
-ghost use Rattle.protocol.specs.Bank.{new, answer, after, expires};
-ghost use Rattle.lanes.specs.Seen.{seen, lane_of, in_force, BelowEight, put, lane_at};
+ghost use Rattle.protocol.specs.Bank.{new, answer, after};
+ghost use Rattle.lanes.specs.Seen.{seen, lane_of, in_force, BelowEight, put, at_time};
 ghost use Rattle.lanes.specs.Replies.{done, took};
 
 use crate::lanes::{Holder, Lane, Lanes};
@@ -31,7 +31,9 @@ impl Lanes {
             return Err(Refusal::BelowClock);
         }
         self.clock = time;
-        self.lanes = expired(self.lanes, time);
+        for lane in &mut self.lanes {
+            *lane = lane.at_time(time);
+        }
         Ok(())
     }
 
@@ -40,18 +42,11 @@ impl Lanes {
         ensures is { result ≡ in_force self.now name }
         ensures lane { BelowEight name.lane result }
     {
-        if name.lane > 7 {
-            return Err(Refusal::NotInForce);
-        }
-        let lane = self.lanes[name.lane as usize];
-        let Some(holder) = lane.holder else {
-            return Err(Refusal::NotInForce);
-        };
-        if holder.serial == name.serial {
-            Ok(holder)
-        } else {
-            Err(Refusal::NotInForce)
-        }
+        self.lanes
+            .get(name.lane as usize)
+            .and_then(|lane| lane.holder)
+            .filter(|holder| holder.serial == name.serial)
+            .ok_or(Refusal::NotInForce)
     }
 
     /// Writes the holder of a lane; a lane above 7 there is none.
@@ -59,6 +54,7 @@ impl Lanes {
         ensures within { lane < 8 → seen self.new ≡ put lane (lane_of holder) (seen self.old) }
         ensures beyond { 8 ≤ lane → self.new ≡ self.old }
     {
+        // By its index: `get_mut` does not promise that the lanes stay as they are where it finds none.
         if lane < 8 {
             self.lanes[lane as usize] = Lane { holder };
         }
@@ -69,25 +65,19 @@ impl Lanes {
         ensures answers { (m : Make) → took result ≡ answer m (seen self.old) (Take lane ticks) }
         ensures leaves { (m : Make) → seen self.new ≡ after m (seen self.old) (Take lane ticks) }
     {
-        if lane > 7 {
-            return Err(Refusal::NoSuchLane);
-        }
-        let wanted = self.lanes[lane as usize];
+        let wanted = self.lanes.get(lane as usize).ok_or(Refusal::NoSuchLane)?;
         if wanted.holder.is_some() {
             return Err(Refusal::LaneHeld);
         }
-        let deadline = u64::from(self.clock) + u64::from(ticks);
-        if ticks == 0 || deadline >= 1 << 32 {
+        if ticks == 0 {
             return Err(Refusal::Ticks);
         }
-        if self.next >= 1 << 32 {
-            return Err(Refusal::SerialsUsedUp);
-        }
-        let serial = self.next as u32;
+        let deadline = self.clock.checked_add(ticks).ok_or(Refusal::Ticks)?;
+        let serial = u32::try_from(self.next).or(Err(Refusal::SerialsUsedUp))?;
         self.next += 1;
         let holder = Holder {
             serial,
-            deadline: deadline as u32,
+            deadline,
             job: None,
         };
         self.put(lane, Some(holder));
@@ -95,25 +85,13 @@ impl Lanes {
     }
 }
 
-/// Gives the lanes without the holders whose deadline the time reaches.
-fn expired(lanes: [Lane; 8], time: u32) -> [Lane; 8]
-    ensures { (i : ℕ) → lane_at result i ≡ expires time (lane_at lanes i) }
-{
-    let mut left = lanes;
-    for i in 0..8 {
-        left[i] = left[i].at_time(time);
-    }
-    left
-}
-
 impl Lane {
     /// Gives the lane as it stands at a time: free from the deadline on.
     fn at_time(self, time: u32) -> Lane
-        ensures { lane_of result.holder ≡ expires time (lane_of self.holder) }
+        ensures { result ≡ at_time time self }
     {
-        match self.holder {
-            Some(holder) if holder.deadline <= time => Lane { holder: None },
-            _ => self,
+        Lane {
+            holder: self.holder.filter(|holder| time < holder.deadline),
         }
     }
 }
@@ -124,9 +102,8 @@ impl Holder {
         ensures { result ≡ record { serial = self.serial; deadline = self.deadline; job = Some job } }
     {
         Holder {
-            serial: self.serial,
-            deadline: self.deadline,
             job: Some(job),
+            ..self
         }
     }
 }

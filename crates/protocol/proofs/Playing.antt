@@ -1,6 +1,7 @@
 -- A list of calls that is played as far as some place.
-use Rattle.std.proofs.Common.{◌≡◌, ℕ, ◌+◌, ◌<◌, ◌≤◌, List, [], ◌∷◌, ◌++◌, map, length, get_or, take, drop, set, Some, sym, refl, ap, ◌∙◌, subst, ap₂, arith}
+use Rattle.std.proofs.Common.{◌≡◌, ℕ, ◌+◌, ◌<◌, ◌≤◌, List, [], ◌∷◌, ◌++◌, map, length, get_or, take, drop, set, Some, Result, sym, refl, ap, ◌∙◌, subst, ap₂, arith}
 use Rattle.std.proofs.lemmas.List.{take_more_set, drop_more, drop-set-lt, drop_all, take_all, append-nil, append_assoc}
+use Rattle.protocol.specs.declared.refusal.Refusal.{Refusal}
 use Rattle.protocol.specs.declared.call.Call.{Call}
 use Rattle.protocol.specs.declared.call.Reply.{Reply}
 use Rattle.protocol.specs.declared.call.Play.{Play}
@@ -38,14 +39,14 @@ over m start before i now b h mid =
     let all = take_all i now h in
     (sym (append-nil now) ∙ ap₂ (λ (xs ys : List Play). xs ++ replied m b ys) (sym all) (sym none) ∙ mid.told, ap (played m b) (sym none) ∙ mid.leaves)
 
-pub further_by : (m n : Make) → n ≡ m → (start : Bank) (before : List Play) (i : ℕ) (now : List Play) (b next : Bank) (d : Play) (r : Reply) → i < length now →
+pub further_by : (m n : Make) → n ≡ m → (start : Bank) (before : List Play) (i : ℕ) (now : List Play) (b next : Bank) (d : Play) (r : Result Reply Refusal) → i < length now →
     r ≡ answer n b (get_or now i d).call → next ≡ after n b (get_or now i d).call → Midway m start before i now b →
     Midway m start before (i + 1) (set now i (record { call = (get_or now i d).call; reply = Some r })) next
 further_by m n same start before i now b next d r h told leaves mid =
     let p = get_or now i d in
     let r_is : r ≡ answer m b p.call = told ∙ ap (λ (x : Make). answer x b p.call) same in
     let next_is : next ≡ after m b p.call = leaves ∙ ap (λ (x : Make). after x b p.call) same in
-    subst (λ (x : Reply). Midway m start before (i + 1) (set now i (record { call = p.call; reply = Some x })) next) (sym r_is) (further m start before i now b next p d h refl next_is mid)
+    subst (λ (x : Result Reply Refusal). Midway m start before (i + 1) (set now i (record { call = p.call; reply = Some x })) next) (sym r_is) (further m start before i now b next p d h refl next_is mid)
 
 -- ---- the history
 

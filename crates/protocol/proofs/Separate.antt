@@ -1,5 +1,5 @@
 -- What a hold is told depends on its own calls alone.
-use Rattle.std.proofs.Common.{◌≡◌, ℕ, ◌+◌, ◌<◌, ◌≤◌, Bool, true, false, cond, eqb, ltb, ◌≢◌, List, [], ◌∷◌, ◌++◌, Some, None, Option, sym, refl, ap, ◌∙◌, ap₂, arith, eqb-true}
+use Rattle.std.proofs.Common.{◌≡◌, ℕ, ◌+◌, ◌<◌, ◌≤◌, Bool, true, false, cond, eqb, ltb, ◌≢◌, List, [], ◌∷◌, ◌++◌, Some, None, Ok, Err, Option, Result, sym, refl, ap, ◌∙◌, ap₂, arith, eqb-true}
 use mathlib.Core.Bool.{false≢true}
 use Rattle.arithmetic.proofs.Cases.{clash}
 use Rattle.protocol.specs.declared.refusal.Refusal.{Refusal}
@@ -8,7 +8,7 @@ use Rattle.protocol.specs.declared.call.Request.{Request}
 use Rattle.protocol.specs.declared.call.Call.{Call}
 use Rattle.protocol.specs.declared.call.Call.TheVariants.{Tick, Take, Ask}
 use Rattle.protocol.specs.declared.call.Reply.{Reply}
-use Rattle.protocol.specs.declared.call.Reply.TheVariants.{Refused, Done, Took, Stepped, Shown, Told}
+use Rattle.protocol.specs.declared.call.Reply.TheVariants.{Done, Took, Stepped, Shown, Told}
 use Rattle.protocol.specs.Operands.{Make}
 use Rattle.protocol.specs.History.{same, History, gave, begins, Taken}
 use Rattle.protocol.specs.History.Taken.{now, before}
@@ -23,7 +23,7 @@ abbrev tracked : Make → Name → List Call → Track
 tracked m h [] = record { time = 0; view = out }
 tracked m h (c ∷ cs) = evolve m h c (tracked m h cs)
 
-abbrev telling : Make → Name → List Call → List Reply
+abbrev telling : Make → Name → List Call → List (Result Reply Refusal)
 telling m h [] = []
 telling m h (c ∷ cs) = tell m h c (tracked m h cs) ∷ telling m h cs
 
@@ -40,7 +40,7 @@ by_own m h (c ∷ cs) = go (concerns h c (answer m (bank_after m cs) c)) refl (b
         let s = own_step m (bank_after m cs) h c e in
         record {
           tracks = rw e (s.moves ∙ ap (evolve m h c) ih.tracks);
-          says = rw e (ap₂ (λ (a : Reply) (rest : List Reply). a ∷ rest) (s.tells ∙ ap (tell m h c) ih.tracks) ih.says);
+          says = rw e (ap₂ (λ (a : Result Reply Refusal) (rest : List (Result Reply Refusal)). a ∷ rest) (s.tells ∙ ap (tell m h c) ih.tracks) ih.says);
         }
     go false e ih = record { tracks = rw e (other_step m (bank_after m cs) h c e ∙ ih.tracks); says = rw e ih.says }
 
@@ -58,21 +58,21 @@ next_grows m b (Take lane ticks) = go (bars b lane ticks) refl
     go (Some r) f = rw f (omega arith)
 next_grows m b (Ask g r) = omega arith
 
-gave_serial : (serial : ℕ) (a : Reply) → gave serial a ≡ true → a ≡ Took serial
-gave_serial serial (Refused r) e = absurd (false≢true e)
-gave_serial serial Done e = absurd (false≢true e)
-gave_serial serial (Took n) e = ap Took (eqb-true n serial e)
-gave_serial serial (Stepped n) e = absurd (false≢true e)
-gave_serial serial (Shown n s) e = absurd (false≢true e)
-gave_serial serial (Told a) e = absurd (false≢true e)
+gave_serial : (serial : ℕ) (a : Result Reply Refusal) → gave serial a ≡ true → a ≡ Ok (Took serial)
+gave_serial serial (Ok Done) e = absurd (false≢true e)
+gave_serial serial (Ok (Took n)) e = ap (λ k. Ok (Took k)) (eqb-true n serial e)
+gave_serial serial (Ok (Stepped n)) e = absurd (false≢true e)
+gave_serial serial (Ok (Shown n s)) e = absurd (false≢true e)
+gave_serial serial (Ok (Told a)) e = absurd (false≢true e)
+gave_serial serial (Err r) e = absurd (false≢true e)
 
 -- a call that begins a hold is a take of its lane, answered by its serial
-pub record Gives (h : Name) (c : Call) (a : Reply) : Type 0 where
+pub record Gives (h : Name) (c : Call) (a : Result Reply Refusal) : Type 0 where
   pub ticks : ℕ
   pub asked : c ≡ Take h.lane ticks
-  pub given : a ≡ Took h.serial
+  pub given : a ≡ Ok (Took h.serial)
 
-pub gives : (h : Name) (c : Call) (a : Reply) → begins h c a ≡ true → Gives h c a
+pub gives : (h : Name) (c : Call) (a : Result Reply Refusal) → begins h c a ≡ true → Gives h c a
 gives h (Tick t) a e = absurd (false≢true e)
 gives h (Take lane ticks) a e =
     let both = both_true (eqb lane h.lane) (gave h.serial a) e in
@@ -80,16 +80,16 @@ gives h (Take lane ticks) a e =
 gives h (Ask g r) a e = absurd (false≢true e)
 
 -- a take that gives a serial gives the next one, and is then past it
-given_next : (m : Make) (b : Bank) (lane ticks serial : ℕ) → answer m b (Take lane ticks) ≡ Took serial → (b.next ≡ serial) × ((after m b (Take lane ticks)).next ≡ serial + 1)
+given_next : (m : Make) (b : Bank) (lane ticks serial : ℕ) → answer m b (Take lane ticks) ≡ Ok (Took serial) → (b.next ≡ serial) × ((after m b (Take lane ticks)).next ≡ serial + 1)
 given_next m b lane ticks serial e = go (bars b lane ticks) refl
   where
     go : (x : Option Refusal) → bars b lane ticks ≡ x → (b.next ≡ serial) × ((after m b (Take lane ticks)).next ≡ serial + 1)
     go None f =
-        let e' : Took b.next ≡ Took serial = rw f at e in
+        let e' : Ok (Took b.next) ≡ Ok (Took serial) = rw f at e in
         let p : b.next ≡ serial = cc in
         (p, rw (f, p))
     go (Some r) f =
-        let e' : Refused r ≡ Took serial = rw f at e in
+        let e' : Err r ≡ Ok (Took serial) = rw f at e in
         clash (cc)
 
 pub gives_next : (m : Make) (b : Bank) (h : Name) (c : Call) → begins h c (answer m b c) ≡ true → (b.next ≡ h.serial) × (h.serial < (after m b c).next)
@@ -159,7 +159,7 @@ told_alike m h cs₁ cs₂ l (c ∷ later) = go (told_alike m h cs₁ cs₂ l la
     go ih true e =
         record {
           banks = alike_step m h (bank_after m (later ++ cs₁)) (bank_after m (later ++ cs₂)) ih.banks c;
-          tellings = rw e (ap₂ (λ (a : Reply) (rest : List Reply). a ∷ rest) (alike_tells m h (bank_after m (later ++ cs₁)) (bank_after m (later ++ cs₂)) ih.banks c e) ih.tellings);
+          tellings = rw e (ap₂ (λ (a : Result Reply Refusal) (rest : List (Result Reply Refusal)). a ∷ rest) (alike_tells m h (bank_after m (later ++ cs₁)) (bank_after m (later ++ cs₂)) ih.banks c e) ih.tellings);
         }
     go ih false e = record { banks = alike_step m h (bank_after m (later ++ cs₁)) (bank_after m (later ++ cs₂)) ih.banks c; tellings = rw e ih.tellings }
 

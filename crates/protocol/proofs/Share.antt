@@ -1,5 +1,5 @@
 -- What any two holders share, from how a hold stands and from where its job is.
-use Rattle.std.proofs.Common.{◌≡◌, ℕ, ◌-◌, ◌<◌, ◌≤◌, min, Bool, true, false, List, [], ◌∷◌, Some, None, Option, sym, refl, ap, ◌∙◌, subst, ap₂, inl, inr, ⊎_elim, arith}
+use Rattle.std.proofs.Common.{◌≡◌, ℕ, ◌-◌, ◌<◌, ◌≤◌, min, Bool, true, false, List, [], ◌∷◌, Some, None, Ok, Err, Option, Result, sym, refl, ap, ◌∙◌, subst, ap₂, inl, inr, ⊎_elim, arith}
 use mathlib.Core.Bool.{false≢true}
 use Rattle.std.proofs.lemmas.Bool.{cases_lt}
 use Rattle.arithmetic.specs.Estimates.{shortfall}
@@ -16,6 +16,7 @@ use Rattle.single.specs.declared.marks.Marks.{Marks}
 use Rattle.single.specs.declared.answer.Answer.{Answer}
 use Rattle.single.proofs.Determined.{rsqrt_once}
 use Rattle.arithmetic.proofs.Cases.{clash}
+use Rattle.protocol.specs.declared.refusal.Refusal.{Refusal}
 use Rattle.protocol.specs.declared.refusal.Refusal.TheVariants.{DigitsLeft}
 use Rattle.protocol.specs.declared.call.Name.{Name}
 use Rattle.protocol.specs.declared.call.Request.{Request}
@@ -23,7 +24,7 @@ use Rattle.protocol.specs.declared.call.Request.TheVariants.{Load, Load32, Step,
 use Rattle.protocol.specs.declared.call.Call.{Call}
 use Rattle.protocol.specs.declared.call.Call.TheVariants.{Ask}
 use Rattle.protocol.specs.declared.call.Reply.{Reply}
-use Rattle.protocol.specs.declared.call.Reply.TheVariants.{Refused, Stepped, Shown, Told}
+use Rattle.protocol.specs.declared.call.Reply.TheVariants.{Stepped, Shown, Told}
 use Rattle.protocol.specs.Operands.{Make, Lawful, Operand, width, places, number, settled, digits, partial_result, marks_of, Right}
 use Rattle.protocol.specs.Operands.Operand.{fixed, single}
 use Rattle.protocol.specs.Operands.Right.{root, rounded}
@@ -103,16 +104,16 @@ module _ (m : Make) (L : Lawful m) (cs : List Call) (h : Name) where
     course : Goes m o reached working.job
     course = subst (Goes m o reached) (sym working.job_is) (goes m L o working.admitted reached (omega arith))
 
-    looks : next_answer m cs (Ask h Look) ≡ Shown reached (partial_result m o reached)
-    looks = working.answers Look ∙ ap₂ Shown course.made_is course.partial_is
+    looks : next_answer m cs (Ask h Look) ≡ Ok (Shown reached (partial_result m o reached))
+    looks = working.answers Look ∙ ap₂ (λ n s. Ok (Shown n s)) course.made_is course.partial_is
 
-    steps : (k : ℕ) → next_answer m cs (Ask h (Step k)) ≡ Stepped (min k (digits m o - n))
-    steps k = working.answers (Step k) ∙ ap (λ i. Stepped (min k i)) (course.left_is ∙ short (digits m o) n)
+    steps : (k : ℕ) → next_answer m cs (Ask h (Step k)) ≡ Ok (Stepped (min k (digits m o - n)))
+    steps k = working.answers (Step k) ∙ ap (λ i. Ok (Stepped (min k i))) (course.left_is ∙ short (digits m o) n)
       where
         short : (D n : ℕ) → D - min D n ≡ D - n
         short D n = omega arith
 
-    collects : digits m o ≤ n → (mode : Mode) → (a : Answer) × (next_answer m cs (Ask h (Collect mode)) ≡ Told a) × Right mode o a.word a.marks
+    collects : digits m o ≤ n → (mode : Mode) → (a : Answer) × (next_answer m cs (Ask h (Collect mode)) ≡ Ok (Told a)) × Right mode o a.word a.marks
     collects all mode =
         let all_made : reached ≡ digits m o = full (digits m o) n all in
         let t = course.at_end all_made mode in
@@ -121,19 +122,19 @@ module _ (m : Make) (L : Lawful m) (cs : List Call) (h : Name) where
         full : (D n : ℕ) → D ≤ n → min D n ≡ D
         full D n h = omega arith
 
-    only_all : (mode : Mode) (a : Answer) → next_answer m cs (Ask h (Collect mode)) ≡ Told a → digits m o ≤ n
+    only_all : (mode : Mode) (a : Answer) → next_answer m cs (Ask h (Collect mode)) ≡ Ok (Told a) → digits m o ≤ n
     only_all mode a e = ⊎_elim (λ (k : n < digits m o). absurd (too_early k)) (λ (k : digits m o ≤ n). k) (cases_lt n (digits m o))
       where
         too_early : n < digits m o → ⊥
         too_early k =
             let r : reached < digits m o = omega arith in
-            let none : next_answer m cs (Ask h (Collect mode)) ≡ Refused DigitsLeft = working.answers (Collect mode) ∙ ap (λ i. said (collecting i)) (course.early r mode) in
-            let e' : Refused DigitsLeft ≡ Told a = sym none ∙ e in
+            let none : next_answer m cs (Ask h (Collect mode)) ≡ Err DigitsLeft = working.answers (Collect mode) ∙ ap (λ i. said (collecting i)) (course.early r mode) in
+            let e' : Err DigitsLeft ≡ Ok (Told a) = sym none ∙ e in
             clash (cc)
 
   -- ---- who may collect
 
-  collected : (v : View) (mode : Mode) (a : Answer) → Matches m h v (history m cs) → next_answer m cs (Ask h (Collect mode)) ≡ Told a → reply m v (Collect mode) ≡ Told a → MayCollect m cs h
+  collected : (v : View) (mode : Mode) (a : Answer) → Matches m h v (history m cs) → next_answer m cs (Ask h (Collect mode)) ≡ Ok (Told a) → reply m v (Collect mode) ≡ Ok (Told a) → MayCollect m cs h
   collected out mode a s e e' = clash (cc)
   collected (within d None) mode a s e e' = clash (cc)
   collected (within d (Some job)) mode a s e e' =
@@ -147,15 +148,15 @@ module _ (m : Make) (L : Lawful m) (cs : List Call) (h : Name) where
         all_made = only_all b.operand b.asks b.load.there d s.force mode a e;
       }
 
-  only_then : (mode : Mode) (a : Answer) → next_answer m cs (Ask h (Collect mode)) ≡ Told a → MayCollect m cs h
+  only_then : (mode : Mode) (a : Answer) → next_answer m cs (Ask h (Collect mode)) ≡ Ok (Told a) → MayCollect m cs h
   only_then mode a e = collected (view (bank_after m cs) h) mode a (always m L h cs).stands e (sym (says (Collect mode)) ∙ e)
 
-  told_right : (o : Operand) (n : ℕ) → Loaded h o n (history m cs) → (mode : Mode) (a : Answer) → next_answer m cs (Ask h (Collect mode)) ≡ Told a → Right mode o a.word a.marks
+  told_right : (o : Operand) (n : ℕ) → Loaded h o n (history m cs) → (mode : Mode) (a : Answer) → next_answer m cs (Ask h (Collect mode)) ≡ Ok (Told a) → Right mode o a.word a.marks
   told_right o n l mode a e =
       let may = only_then mode a e in
       let all = only_all o n l may.deadline may.in_force mode a e in
       let t = collects o n l may.deadline may.in_force all mode in
-      let same : Told t.0 ≡ Told a = sym t.1 ∙ e in
+      let same : Ok (Told t.0) ≡ Ok (Told a) = sym t.1 ∙ e in
       let p : t.0 ≡ a = cc in
       subst (λ (x : Answer). Right mode o x.word x.marks) p t.2
 
@@ -185,7 +186,7 @@ admitted m h o n (c ∷ cs) l = go (λ (k : ℕ) (i : Loaded h o k (history m cs
         let r = loads_own h o c t.1 in
         let b = bank_after m cs in
         let a : accepted (answer m b (Ask h r.0)) ≡ true = subst (λ (x : Call). accepted (answer m b x) ≡ true) r.1 t.0 in
-        let y : accepted (reply m (view b h) r.0) ≡ true = subst (λ (x : Reply). accepted x ≡ true) (own_step m b h (Ask h r.0) (same_self h)).tells a in
+        let y : accepted (reply m (view b h) r.0) ≡ true = subst (λ (x : Result Reply Refusal). accepted x ≡ true) (own_step m b h (Ask h r.0) (same_self h)).tells a in
         let p : loads h (Ask h r.0) ≡ Some o = subst (λ (x : Call). loads h x ≡ Some o) r.1 t.1 in
         let q : operand_of r.0 ≡ Some o = rw (same_self h) at p in
         admitted_view m (view b h) o r.0 q y
@@ -220,7 +221,7 @@ holder m L cs h o n l =
 
 alike : (m₁ m₂ : Make) → Lawful m₁ → Lawful m₂ → (cs₁ cs₂ : List Call) (h₁ h₂ : Name) (o : Operand) (n₁ n₂ : ℕ) →
     Loaded h₁ o n₁ (history m₁ cs₁) → Loaded h₂ o n₂ (history m₂ cs₂) → (mode : Mode) (a₁ a₂ : Answer) →
-    next_answer m₁ cs₁ (Ask h₁ (Collect mode)) ≡ Told a₁ → next_answer m₂ cs₂ (Ask h₂ (Collect mode)) ≡ Told a₂ → a₁ ≡ a₂
+    next_answer m₁ cs₁ (Ask h₁ (Collect mode)) ≡ Ok (Told a₁) → next_answer m₂ cs₂ (Ask h₂ (Collect mode)) ≡ Ok (Told a₂) → a₁ ≡ a₂
 alike m₁ m₂ L₁ L₂ cs₁ cs₂ h₁ h₂ o n₁ n₂ l₁ l₂ mode a₁ a₂ e₁ e₂ =
     let r₁ = told_right m₁ L₁ cs₁ h₁ o n₁ l₁ mode a₁ e₁ in
     let r₂ = told_right m₂ L₂ cs₂ h₂ o n₂ l₂ mode a₂ e₂ in

@@ -1,5 +1,5 @@
 -- How a hold stands in its lane, by its history.
-use Rattle.std.proofs.Common.{◌≡◌, ℕ, ◌+◌, ◌-◌, ◌≤◌, min, Bool, true, false, cond, ◌&&◌, eqb, ltb, leb, ◌⊎◌, List, [], ◌∷◌, Some, None, Option, sym, refl, ap, ◌∙◌, subst, inl, inr, true≢false, zero-add, arith}
+use Rattle.std.proofs.Common.{◌≡◌, ℕ, ◌+◌, ◌-◌, ◌≤◌, min, Bool, true, false, cond, ◌&&◌, eqb, ltb, leb, ◌⊎◌, List, [], ◌∷◌, Some, None, Ok, Err, Option, Result, sym, refl, ap, ◌∙◌, subst, inl, inr, true≢false, zero-add, arith}
 use mathlib.Core.Bool.{false≢true}
 use Rattle.selection.specs.declared.refusal.Refusal.{Refusal as OperandRefusal}
 use Rattle.selection.specs.Operands as operands
@@ -14,7 +14,7 @@ use Rattle.protocol.specs.declared.call.Request.TheVariants.{Load, Load32, Step,
 use Rattle.protocol.specs.declared.call.Call.{Call}
 use Rattle.protocol.specs.declared.call.Call.TheVariants.{Tick, Take, Ask}
 use Rattle.protocol.specs.declared.call.Reply.{Reply}
-use Rattle.protocol.specs.declared.call.Reply.TheVariants.{Refused, Done, Stepped, Told}
+use Rattle.protocol.specs.declared.call.Reply.TheVariants.{Done, Stepped, Told}
 use Rattle.protocol.specs.Operands.{Make, Lawful, Operand, digits}
 use Rattle.protocol.specs.Operands.Operand.{fixed, single}
 use Rattle.protocol.specs.History.{same, accepted, Event, History, sets, clock, begins, lease, is_last, ends, operand_of, loads, count_of, steps, InForce, Loaded}
@@ -31,7 +31,7 @@ use Rattle.protocol.proofs.Working.Admitted.{any}
 
 -- ---- what one more event says
 
-abbrev pub event : Call → Reply → Event
+abbrev pub event : Call → Result Reply Refusal → Event
 event c a = record { call = c; reply = a }
 
 -- a hold's end, and the digits that it asks for, by one event
@@ -134,16 +134,16 @@ cond_same true a = refl
 cond_same false a = refl
 
 -- refused
-refused_begins : (h : Name) (c : Call) (r : Refusal) → begins h c (Refused r) ≡ true → ⊥
+refused_begins : (h : Name) (c : Call) (r : Refusal) → begins h c (Err r) ≡ true → ⊥
 refused_begins h (Tick t) r e = false≢true e
 refused_begins h (Take lane ticks) r e = false≢true (sym (and_not (eqb lane h.lane)) ∙ e)
 refused_begins h (Ask g q) r e = false≢true e
 
-refused_quiet : (h : Name) (c : Call) (r : Refusal) → Quiet h (event c (Refused r))
+refused_quiet : (h : Name) (c : Call) (r : Refusal) → Quiet h (event c (Err r))
 refused_quiet h c r = record { no_gift = refused_begins h c r; no_count = refl; no_load = λ o a p. false≢true a }
 
 -- of no concern to the hold
-other_quiet : (h : Name) (c : Call) (a : Reply) → concerns h c a ≡ false → Quiet h (event c a)
+other_quiet : (h : Name) (c : Call) (a : Result Reply Refusal) → concerns h c a ≡ false → Quiet h (event c a)
 other_quiet h (Tick t) a e = absurd (true≢false e)
 other_quiet h (Take lane ticks) a e = record { no_gift = λ g. true≢false (sym g ∙ e); no_count = cond_same (accepted a) 0; no_load = λ o _ p. clash (cc) }
 other_quiet h (Ask g r) a e =
@@ -153,17 +153,17 @@ other_quiet h (Ask g r) a e =
       no_load = λ o _ p. let p' : None ≡ Some o = rw e at p in clash (cc);
     }
 
-other_lasts : (h : Name) (c : Call) (a : Reply) → concerns h c a ≡ false → (d : ℕ) → ending h d (event c a) ≡ false
+other_lasts : (h : Name) (c : Call) (a : Result Reply Refusal) → concerns h c a ≡ false → (d : ℕ) → ending h d (event c a) ≡ false
 other_lasts h (Tick t) a e d = absurd (true≢false e)
 other_lasts h (Take lane ticks) a e d = and_not (accepted a)
 other_lasts h (Ask g r) a e d = rw e (and_not (accepted a))
 
 -- ticks
-tick_quiet : (h : Name) (t : ℕ) (a : Reply) → Quiet h (event (Tick t) a)
+tick_quiet : (h : Name) (t : ℕ) (a : Result Reply Refusal) → Quiet h (event (Tick t) a)
 tick_quiet h t a = record { no_gift = λ g. false≢true g; no_count = cond_same (accepted a) 0; no_load = λ o _ p. clash (cc) }
 
 -- the hold's own requests, but steps and loads
-ask_quiet : (h : Name) (r : Request) (a : Reply) → count_of r ≡ 0 → operand_of r ≡ None → Quiet h (event (Ask h r) a)
+ask_quiet : (h : Name) (r : Request) (a : Result Reply Refusal) → count_of r ≡ 0 → operand_of r ≡ None → Quiet h (event (Ask h r) a)
 ask_quiet h r a z n =
     record {
       no_gift = λ g. false≢true g;
@@ -174,17 +174,17 @@ ask_quiet h r a z n =
 -- ---- a request with the hold itself
 
 -- one that ends it, accepted
-freed : (m : Make) (h : Name) (es : History) (r : Request) (a : Reply) → is_last r ≡ true → count_of r ≡ 0 → operand_of r ≡ None → accepted a ≡ true → Matches m h out (event (Ask h r) a ∷ es)
+freed : (m : Make) (h : Name) (es : History) (r : Request) (a : Result Reply Refusal) → is_last r ≡ true → count_of r ≡ 0 → operand_of r ≡ None → accepted a ≡ true → Matches m h out (event (Ask h r) a ∷ es)
 freed m h es r a l z n y = λ d f. true≢false (sym (rw (y, same_self h, l)) ∙ (force_back (ask_quiet h r a z n) f).1)
 
-looked : (m : Make) (h : Name) (es : History) (d : ℕ) (job : Option Job) (a : Reply) → Stands m h d job es → Stands m h d job (event (Ask h Look) a ∷ es)
+looked : (m : Make) (h : Name) (es : History) (d : ℕ) (job : Option Job) (a : Result Reply Refusal) → Stands m h d job es → Stands m h d job (event (Ask h Look) a ∷ es)
 looked m h es d job a s = stands_keep m h (event (Ask h Look) a) es (ask_quiet h Look a refl refl) d job (rw (same_self h) (and_not (accepted a))) s
 
-refusal : (m : Make) (h : Name) (es : History) (v : View) (r : Request) (k : Refusal) → Matches m h v es → Matches m h v (event (Ask h r) (Refused k) ∷ es)
-refusal m h es v r k s = matches_keep m h (event (Ask h r) (Refused k)) es (refused_quiet h (Ask h r) k) (λ d. refl) v s
+refusal : (m : Make) (h : Name) (es : History) (v : View) (r : Request) (k : Refusal) → Matches m h v es → Matches m h v (event (Ask h r) (Err k) ∷ es)
+refusal m h es v r k s = matches_keep m h (event (Ask h r) (Err k)) es (refused_quiet h (Ask h r) k) (λ d. refl) v s
 
 -- one that it lives on through
-module _ (m : Make) (h : Name) (es : History) (d : ℕ) (r : Request) (a : Reply) (goes_on : is_last r ≡ false) where
+module _ (m : Make) (h : Name) (es : History) (d : ℕ) (r : Request) (a : Result Reply Refusal) (goes_on : is_last r ≡ false) where
   lives : (job next : Option Job) → Stands m h d job es → JobFits m h next (event (Ask h r) a ∷ es) → Stands m h d next (event (Ask h r) a ∷ es)
   lives job next s f =
       record { force = lasts s.force (rw (same_self h, goes_on) (and_not (accepted a))); until = λ d' i. s.until d' (back d' (force_inv i)); fits = f }
@@ -195,9 +195,9 @@ module _ (m : Make) (h : Name) (es : History) (d : ℕ) (r : Request) (a : Reply
 
 -- a load
 loaded_now : (m : Make) (h : Name) (es : History) (d : ℕ) (o : Operand) (r : Request) → Admitted o → operand_of r ≡ Some o → is_last r ≡ false → Stands m h d None es →
-    Stands m h d (Some (begun m o)) (event (Ask h r) Done ∷ es)
+    Stands m h d (Some (begun m o)) (event (Ask h r) (Ok Done) ∷ es)
 loaded_now m h es d o r ok p l s =
-    lives m h es d r Done l None (Some (begun m o)) s
+    lives m h es d r (Ok Done) l None (Some (begun m o)) s
     (record {
       operand = o;
       asks = 0;
@@ -209,7 +209,7 @@ loaded_now m h es d o r ok p l s =
     none : (D : ℕ) → 0 ≡ min D 0
     none D = omega arith
 
-    only : (o' : Operand) (n' : ℕ) → LoadCases h o' n' (event (Ask h r) Done) es → (o' ≡ o) × (n' ≡ 0)
+    only : (o' : Operand) (n' : ℕ) → LoadCases h o' n' (event (Ask h r) (Ok Done)) es → (o' ≡ o) × (n' ≡ 0)
     only o' n' (inl t) =
         let q : operand_of r ≡ Some o' = rw (same_self h) at t.1 in
         let e : Some o ≡ Some o' = sym p ∙ q in
@@ -218,14 +218,14 @@ loaded_now m h es d o r ok p l s =
     only o' n' (inr t) = absurd (s.fits o' t.0 t.1)
 
 -- a step
-sole_step : (h : Name) (o : Operand) (n k t : ℕ) (es : History) → SoleLoad h o n es → SoleLoad h o (k + n) (event (Ask h (Step k)) (Stepped t) ∷ es)
+sole_step : (h : Name) (o : Operand) (n k t : ℕ) (es : History) → SoleLoad h o n es → SoleLoad h o (k + n) (event (Ask h (Step k)) (Ok (Stepped t)) ∷ es)
 sole_step h o n k t es l =
     record {
-      there = rw (same_self h) at (since {e = event (Ask h (Step k)) (Stepped t)} l.there);
+      there = rw (same_self h) at (since {e = event (Ask h (Step k)) (Ok (Stepped t))} l.there);
       sole = λ o' n' l'. only o' n' (load_inv l');
     }
   where
-    only : (o' : Operand) (n' : ℕ) → LoadCases h o' n' (event (Ask h (Step k)) (Stepped t)) es → (o' ≡ o) × (n' ≡ k + n)
+    only : (o' : Operand) (n' : ℕ) → LoadCases h o' n' (event (Ask h (Step k)) (Ok (Stepped t))) es → (o' ≡ o) × (n' ≡ k + n)
     only o' n' (inl i) = let i' : None ≡ Some o' = rw (same_self h) at i.1 in clash (cc)
     only o' n' (inr i) =
         let p = l.sole o' i.0 i.1 in
@@ -238,9 +238,9 @@ brought_left m L h job es f =
     ap (left m) f.job_is ∙ (goes m L f.operand f.admitted (min (digits m f.operand) f.asks) (omega arith)).left_is
 
 stepped : (m : Make) → Lawful m → (h : Name) (es : History) (d k : ℕ) (job : Job) → Stands m h d (Some job) es →
-    Stands m h d (Some (turns m (min k (left m job)) job)) (event (Ask h (Step k)) (Stepped (min k (left m job))) ∷ es)
+    Stands m h d (Some (turns m (min k (left m job)) job)) (event (Ask h (Step k)) (Ok (Stepped (min k (left m job)))) ∷ es)
 stepped m L h es d k job s =
-    lives m h es d (Step k) (Stepped (min k (left m job))) refl (Some job) (Some (turns m (min k (left m job)) job)) s
+    lives m h es d (Step k) (Ok (Stepped (min k (left m job)))) refl (Some job) (Some (turns m (min k (left m job)) job)) s
     (record {
       operand = f.operand;
       asks = k + f.asks;
@@ -271,7 +271,7 @@ module _ (m : Make) (L : Lawful m) (h : Name) (es : History) (d : ℕ) where
 
   collect_fits : (job : Job) (mode : Mode) → Stands m h d (Some job) es → (a : Option Answer) → After m h d (Some job) (Collect mode) es (collecting a)
   collect_fits job mode s None = refusal m h es (within d (Some job)) (Collect mode) DigitsLeft s
-  collect_fits job mode s (Some a) = freed m h es (Collect mode) (Told a) refl refl refl refl
+  collect_fits job mode s (Some a) = freed m h es (Collect mode) (Ok (Told a)) refl refl refl refl
 
   served_fits : (job : Option Job) (r : Request) → Stands m h d job es → After m h d job r es (serve m job r)
   served_fits None (Load K Q x) s = load_fits K Q x s (operands.refusal K Q x) refl
@@ -279,13 +279,13 @@ module _ (m : Make) (L : Lawful m) (h : Name) (es : History) (d : ℕ) where
   served_fits None (Step n) s = refusal m h es (within d None) (Step n) NoJob s
   served_fits None Look s = refusal m h es (within d None) Look NoJob s
   served_fits None (Collect mode) s = refusal m h es (within d None) (Collect mode) NoJob s
-  served_fits None Give s = freed m h es Give Done refl refl refl refl
+  served_fits None Give s = freed m h es Give (Ok Done) refl refl refl refl
   served_fits (Some job) (Load K Q x) s = refusal m h es (within d (Some job)) (Load K Q x) AlreadyLoaded s
   served_fits (Some job) (Load32 v) s = refusal m h es (within d (Some job)) (Load32 v) AlreadyLoaded s
   served_fits (Some job) (Step n) s = stepped m L h es d n job s
   served_fits (Some job) Look s = looked m h es d (Some job) _ s
   served_fits (Some job) (Collect mode) s = collect_fits job mode s (told m mode job)
-  served_fits (Some job) Give s = freed m h es Give Done refl refl refl refl
+  served_fits (Some job) Give s = freed m h es Give (Ok Done) refl refl refl refl
 
 asked_fits : (m : Make) → Lawful m → (h : Name) (es : History) (v : View) (r : Request) → Matches m h v es → Matches m h (asked m v r) (event (Ask h r) (reply m v r) ∷ es)
 asked_fits m L h es out r s = refusal m h es out r NotInForce s
@@ -293,20 +293,20 @@ asked_fits m L h es (within d job) r s = served_fits m L h es d job r s
 
 -- ---- ticks and takes
 
-tick_fits : (m : Make) (h : Name) (es : History) (t : ℕ) (v : View) → Matches m h v es → Matches m h (expired t v) (event (Tick t) Done ∷ es)
-tick_fits m h es t out s = λ d f. s d (force_back (tick_quiet h t Done) f).0
+tick_fits : (m : Make) (h : Name) (es : History) (t : ℕ) (v : View) → Matches m h v es → Matches m h (expired t v) (event (Tick t) (Ok Done) ∷ es)
+tick_fits m h es t out s = λ d f. s d (force_back (tick_quiet h t (Ok Done)) f).0
 tick_fits m h es t (within d job) s = go (leb d t) refl
   where
-    go : (x : Bool) → leb d t ≡ x → Matches m h (expired t (within d job)) (event (Tick t) Done ∷ es)
+    go : (x : Bool) → leb d t ≡ x → Matches m h (expired t (within d job)) (event (Tick t) (Ok Done) ∷ es)
     go true e =
-        let gone : Matches m h out (event (Tick t) Done ∷ es) =
+        let gone : Matches m h out (event (Tick t) (Ok Done) ∷ es) =
         λ d' f.
-        let b = force_back (tick_quiet h t Done) f in
+        let b = force_back (tick_quiet h t (Ok Done)) f in
         let same : d' ≡ d = s.until d' b.0 in
         true≢false (sym (rw same e) ∙ b.1) in
         rw e gone
     go false e =
-        let stays : Stands m h d job (event (Tick t) Done ∷ es) = stands_keep m h (event (Tick t) Done) es (tick_quiet h t Done) d job e s in
+        let stays : Stands m h d job (event (Tick t) (Ok Done) ∷ es) = stands_keep m h (event (Tick t) (Ok Done)) es (tick_quiet h t (Ok Done)) d job e s in
         rw e stays
 
 -- a hold that was never in force and never loaded
@@ -314,7 +314,7 @@ pub record Fresh (h : Name) (es : History) : Type 0 where
   pub never_in_force : (d : ℕ) → InForce h d es → ⊥
   pub never_loaded : (o : Operand) (n : ℕ) → Loaded h o n es → ⊥
 
-take_fits : (m : Make) (h : Name) (es : History) (lane ticks : ℕ) (a : Reply) → begins h (Take lane ticks) a ≡ true → Fresh h es →
+take_fits : (m : Make) (h : Name) (es : History) (lane ticks : ℕ) (a : Result Reply Refusal) → begins h (Take lane ticks) a ≡ true → Fresh h es →
     Stands m h (clock es + ticks) None (event (Take lane ticks) a ∷ es)
 take_fits m h es lane ticks a g n = record { force = taken g; until = λ d' f. only d' (force_inv f); fits = λ o k l. none o k (load_inv l) }
   where
@@ -373,7 +373,7 @@ fresh_step m h b es c i n =
     no_load f o k (inl t) =
         let r = loads_own h o c t.1 in
         let v : view b h ≡ out = unseen m h es (view b h) i.stands f.never_in_force in
-        let a : answer m b (Ask h r.0) ≡ Refused NotInForce = (own_step m b h (Ask h r.0) (same_self h)).tells ∙ ap (λ x. reply m x r.0) v in
+        let a : answer m b (Ask h r.0) ≡ Err NotInForce = (own_step m b h (Ask h r.0) (same_self h)).tells ∙ ap (λ x. reply m x r.0) v in
         let y : accepted (answer m b (Ask h r.0)) ≡ true = subst (λ (x : Call). accepted (answer m b x) ≡ true) r.1 t.0 in
         false≢true (sym (ap accepted a) ∙ y)
     no_load f o k (inr t) = f.never_loaded o t.0 t.1
@@ -394,7 +394,7 @@ own_stands m L h b es (Tick t) i e = go (ltb t b.time) refl
 
     go : (x : Bool) → ltb t b.time ≡ x → Matches m h (view (after m b (Tick t)) h) (event (Tick t) (answer m b (Tick t)) ∷ es)
     go true f =
-        let p : Matches m h (view b h) (event (Tick t) (Refused BelowClock) ∷ es) = matches_keep m h (event (Tick t) (Refused BelowClock)) es (refused_quiet h (Tick t) BelowClock) (λ d. refl) (view b h) i.stands in
+        let p : Matches m h (view b h) (event (Tick t) (Err BelowClock) ∷ es) = matches_keep m h (event (Tick t) (Err BelowClock)) es (refused_quiet h (Tick t) BelowClock) (λ d. refl) (view b h) i.stands in
         rw (moved, f) p
     go false f = rw (moved, f) (tick_fits m h es t (view b h) i.stands)
 own_stands m L h b es (Take lane ticks) i e =

@@ -1,5 +1,5 @@
 -- What a hold finds in its lane, and how a call changes that.
-use Rattle.std.proofs.Common.{◌≡◌, ℕ, ◌+◌, ◌^◌, Bool, true, false, cond, ◌&&◌, ◌||◌, eqb, ltb, leb, ◌⊎◌, Some, None, Option, sym, refl, ap, subst, inl, inr, ⊎_elim, true≢false, arith, eqb-true}
+use Rattle.std.proofs.Common.{◌≡◌, ℕ, ◌+◌, ◌^◌, Bool, true, false, cond, ◌&&◌, ◌||◌, eqb, ltb, leb, ◌⊎◌, Some, None, Ok, Err, Option, Result, sym, refl, ap, subst, inl, inr, ⊎_elim, true≢false, arith, eqb-true}
 use mathlib.Core.Bool.{false≢true}
 use Rattle.std.proofs.lemmas.Bool.Decides.{nat_tests as tells}
 use Rattle.arithmetic.proofs.Cases.{clash}
@@ -10,7 +10,7 @@ use Rattle.protocol.specs.declared.call.Request.{Request}
 use Rattle.protocol.specs.declared.call.Call.{Call}
 use Rattle.protocol.specs.declared.call.Call.TheVariants.{Tick, Take, Ask}
 use Rattle.protocol.specs.declared.call.Reply.{Reply}
-use Rattle.protocol.specs.declared.call.Reply.TheVariants.{Refused, Done, Took}
+use Rattle.protocol.specs.declared.call.Reply.TheVariants.{Done, Took}
 use Rattle.protocol.specs.Operands.{Make}
 use Rattle.protocol.specs.History.{same}
 use Rattle.protocol.specs.Jobs.{Job}
@@ -32,8 +32,8 @@ view b h = seen h.serial (b.lane h.lane)
 
 -- ---- what a request does to a view
 
-abbrev pub reply : Make → View → Request → Reply
-reply m out r = Refused NotInForce
+abbrev pub reply : Make → View → Request → Result Reply Refusal
+reply m out r = Err NotInForce
 reply m (within d job) r = said (serve m job r)
 
 abbrev pub kept_view : ℕ → Option Job → Served → View
@@ -56,7 +56,7 @@ either false = inr refl
 pub lane_replies : (m : Make) (serial : ℕ) (r : Request) (l : Lane) → replies m serial r l ≡ reply m (seen serial l) r
 lane_replies m serial r free = refl
 lane_replies m serial r (held owner d job) =
-    elim (eqb owner serial) as (λ t. cond t (said (serve m job r)) (Refused NotInForce) ≡ reply m (cond t (within d job) out) r) [ true ↦ refl | false ↦ refl ]
+    elim (eqb owner serial) as (λ t. cond t (said (serve m job r)) (Err NotInForce) ≡ reply m (cond t (within d job) out) r) [ true ↦ refl | false ↦ refl ]
 
 seen_kept : (owner serial d : ℕ) (job : Option Job) → eqb owner serial ≡ true → (v : Served) → seen serial (kept owner d job v) ≡ kept_view d job v
 seen_kept owner serial d job e (stopped n) = rw e
@@ -141,9 +141,9 @@ evolve m h (Tick t) k = cond (ltb t k.time) k (record { time = t; view = expired
 evolve m h (Take lane ticks) k = record { time = k.time; view = within (k.time + ticks) None }
 evolve m h (Ask g r) k = record { time = k.time; view = asked m k.view r }
 
-abbrev pub tell : Make → Name → Call → Track → Reply
-tell m h (Tick t) k = cond (ltb t k.time) (Refused BelowClock) Done
-tell m h (Take lane ticks) k = Took h.serial
+abbrev pub tell : Make → Name → Call → Track → Result Reply Refusal
+tell m h (Tick t) k = cond (ltb t k.time) (Err BelowClock) (Ok Done)
+tell m h (Take lane ticks) k = Ok (Took h.serial)
 tell m h (Ask g r) k = reply m k.view r
 
 pub record OwnStep (m : Make) (b : Bank) (h : Name) (c : Call) : Type 0 where
@@ -193,7 +193,7 @@ take_step m b h lane ticks e = go (bars b lane ticks) refl
     go : (x : Option Refusal) → bars b lane ticks ≡ x → OwnStep m b h (Take lane ticks)
     go None f =
         let both = both_true (eqb lane h.lane) (eqb b.next h.serial) (rw f at e) in
-        record { moves = rw f (taken_view b h lane ticks both.0 both.1); tells = rw f (ap Took (eqb-true b.next h.serial both.1)) }
+        record { moves = rw f (taken_view b h lane ticks both.0 both.1); tells = rw f (ap (λ n. Ok (Took n)) (eqb-true b.next h.serial both.1)) }
     go (Some r) f = absurd (and_no (eqb lane h.lane) (rw f at e))
 
 ask_step : (m : Make) (b : Bank) (h : Name) (g : Name) (r : Request) → same g h ≡ true → OwnStep m b h (Ask g r)

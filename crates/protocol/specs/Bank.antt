@@ -1,5 +1,5 @@
 -- The bank: eight lanes, each let to one holder at a time. A refused call leaves it as it was.
-use Rattle.std.specs.Prelude.{ℕ, ◌+◌, ◌^◌, min, Bool, true, false, cond, ◌||◌, Some, None, Option, ◌==◌, nat_le, nat_lt}
+use Rattle.std.specs.Prelude.{ℕ, ◌+◌, ◌^◌, min, Bool, true, false, cond, ◌||◌, Some, None, Ok, Err, Option, Result, ◌==◌, nat_le, nat_lt}
 use Rattle.selection.specs.declared.refusal.Refusal.{Refusal as OperandRefusal}
 use Rattle.selection.specs.Operands as operands
 use Rattle.single.specs.declared.answer.Answer.{Answer}
@@ -10,7 +10,7 @@ use Rattle.protocol.specs.declared.call.Request.TheVariants.{Load, Load32, Step,
 use Rattle.protocol.specs.declared.call.Call.{Call}
 use Rattle.protocol.specs.declared.call.Call.TheVariants.{Tick, Take, Ask}
 use Rattle.protocol.specs.declared.call.Reply.{Reply}
-use Rattle.protocol.specs.declared.call.Reply.TheVariants.{Refused, Done, Took, Stepped, Shown, Told}
+use Rattle.protocol.specs.declared.call.Reply.TheVariants.{Done, Took, Stepped, Shown, Told}
 use Rattle.protocol.specs.Operands.{Make, Operand}
 use Rattle.protocol.specs.Operands.Operand.{fixed, single}
 use Rattle.protocol.specs.Jobs.{Job, begun, turns, made, left, partial, told}
@@ -69,10 +69,10 @@ abbrev pub serve : Make → Option Job → Request → Served
 serve m None r = serve_idle m r
 serve m (Some job) r = serve_job m job r
 
-abbrev pub said : Served → Reply
-said (stopped n) = Refused n
-said (goes_on a job) = a
-said (frees a) = a
+abbrev pub said : Served → Result Reply Refusal
+said (stopped n) = Err n
+said (goes_on a job) = Ok a
+said (frees a) = Ok a
 
 abbrev pub kept : ℕ → ℕ → Option Job → Served → Lane
 kept serial deadline job (stopped n) = held serial deadline job
@@ -82,9 +82,9 @@ kept serial deadline job (frees a) = free
 -- ---- the calls
 
 -- what a lane answers to a request with a serial, and how it is left
-abbrev pub replies : Make → ℕ → Request → Lane → Reply
-replies m serial r free = Refused NotInForce
-replies m serial r (held owner deadline job) = cond (owner == serial) (said (serve m job r)) (Refused NotInForce)
+abbrev pub replies : Make → ℕ → Request → Lane → Result Reply Refusal
+replies m serial r free = Err NotInForce
+replies m serial r (held owner deadline job) = cond (owner == serial) (said (serve m job r)) (Err NotInForce)
 
 abbrev pub leaves : Make → ℕ → Request → Lane → Lane
 leaves m serial r free = free
@@ -107,9 +107,9 @@ bars b lane ticks =
     (cond (ticks == 0 || nat_le (2 ^ 32) (b.time + ticks)) (Some Ticks)
     (cond (nat_le (2 ^ 32) b.next) (Some SerialsUsedUp) None)))
 
-abbrev pub taking : ℕ → Option Refusal → Reply
-taking serial None = Took serial
-taking serial (Some r) = Refused r
+abbrev pub taking : ℕ → Option Refusal → Result Reply Refusal
+taking serial None = Ok (Took serial)
+taking serial (Some r) = Err r
 
 -- the lanes with the one at i changed
 abbrev pub at : ℕ → (Lane → Lane) → (ℕ → Lane) → ℕ → Lane
@@ -122,8 +122,8 @@ abbrev pub taken : Bank → ℕ → ℕ → Option Refusal → Bank
 taken b lane ticks None = put b lane ticks
 taken b lane ticks (Some r) = b
 
-abbrev pub answer : Make → Bank → Call → Reply
-answer m b (Tick t) = cond (nat_lt t b.time) (Refused BelowClock) Done
+abbrev pub answer : Make → Bank → Call → Result Reply Refusal
+answer m b (Tick t) = cond (nat_lt t b.time) (Err BelowClock) (Ok Done)
 answer m b (Take lane ticks) = taking b.next (bars b lane ticks)
 answer m b (Ask h r) = replies m h.serial r (b.lane h.lane)
 

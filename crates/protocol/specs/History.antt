@@ -1,12 +1,13 @@
 -- Calls with their answers, and what a list of them says of a hold.
-use Rattle.std.specs.Prelude.{◌≡◌, ℕ, ◌+◌, Bool, true, false, cond, ◌&&◌, List, [], ◌∷◌, Some, None, Option, ◌==◌, nat_le}
+use Rattle.std.specs.Prelude.{◌≡◌, ℕ, ◌+◌, Bool, true, false, cond, ◌&&◌, List, [], ◌∷◌, Some, None, Ok, Err, Option, Result, ◌==◌, nat_le}
+use Rattle.protocol.specs.declared.refusal.Refusal.{Refusal}
 use Rattle.protocol.specs.declared.call.Name.{Name}
 use Rattle.protocol.specs.declared.call.Request.{Request}
 use Rattle.protocol.specs.declared.call.Request.TheVariants.{Load, Load32, Step, Look, Collect, Give}
 use Rattle.protocol.specs.declared.call.Call.{Call}
 use Rattle.protocol.specs.declared.call.Call.TheVariants.{Tick, Take, Ask}
 use Rattle.protocol.specs.declared.call.Reply.{Reply}
-use Rattle.protocol.specs.declared.call.Reply.TheVariants.{Refused, Done, Took, Stepped, Shown, Told}
+use Rattle.protocol.specs.declared.call.Reply.TheVariants.{Done, Took, Stepped, Shown, Told}
 use Rattle.protocol.specs.Operands.{Operand}
 use Rattle.protocol.specs.Operands.Operand.{fixed, single}
 
@@ -15,18 +16,14 @@ abbrev pub same : Name → Name → Bool
 same g h = g.lane == h.lane && g.serial == h.serial
 
 -- A call that none of its checks stops is accepted.
-abbrev pub accepted : Reply → Bool
-accepted (Refused r) = false
-accepted Done = true
-accepted (Took serial) = true
-accepted (Stepped n) = true
-accepted (Shown n s) = true
-accepted (Told a) = true
+abbrev pub accepted : Result Reply Refusal → Bool
+accepted (Ok a) = true
+accepted (Err r) = false
 
 -- A call with its answer. A history has the newest first.
 pub record Event : Type 0 where
   pub call : Call
-  pub reply : Reply
+  pub reply : Result Reply Refusal
 
 abbrev pub History : Type 0
 History = List Event
@@ -45,16 +42,16 @@ clock (e ∷ es) = cond (accepted e.reply) (sets e.call (clock es)) (clock es)
 
 -- ---- what a call does to a hold: begins, ends, loads and steps it
 
-abbrev pub gave : ℕ → Reply → Bool
-gave serial (Refused r) = false
-gave serial Done = false
-gave serial (Took n) = n == serial
-gave serial (Stepped n) = false
-gave serial (Shown n s) = false
-gave serial (Told a) = false
+abbrev pub gave : ℕ → Result Reply Refusal → Bool
+gave serial (Ok Done) = false
+gave serial (Ok (Took n)) = n == serial
+gave serial (Ok (Stepped n)) = false
+gave serial (Ok (Shown n s)) = false
+gave serial (Ok (Told a)) = false
+gave serial (Err r) = false
 
 -- a take of its lane that hands out its serial begins it
-abbrev pub begins : Name → Call → Reply → Bool
+abbrev pub begins : Name → Call → Result Reply Refusal → Bool
 begins h (Tick t) a = false
 begins h (Take lane ticks) a = lane == h.lane && gave h.serial a
 begins h (Ask g r) a = false

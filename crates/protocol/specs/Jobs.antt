@@ -1,5 +1,6 @@
 -- Jobs: what a loaded operand is worked by, digit by digit, and what it tells.
 use Rattle.std.specs.Prelude.{ℕ, zero, suc, ℤ, Some, None, Option}
+use Rattle.std.specs.Option.{option_map, option_map_or}
 use Rattle.recurrence.specs.declared.registers.Outcome.{Outcome}
 use Rattle.recurrence.specs.Recurrence.{State}
 use Rattle.recurrence.specs.Recurrence as recurrence
@@ -37,33 +38,27 @@ abbrev pub turns : Make → ℕ → Job → Job
 turns m zero job = job
 turns m (suc n) job = turned m (turns m n job)
 
--- the digits made and the digits left
+-- the job of the recurrence that works it; a settled job has none
+abbrev pub worked_by : Job → Option State
+worked_by (settled a) = None
+worked_by (fixed c) = Some c
+worked_by (single E c) = Some c
+
+-- the digits made, the digits left and the partial result, each 0 for a settled job
 abbrev pub made : Make → Job → ℕ
-made m (settled a) = 0
-made m (fixed c) = recurrence.made m.selector c
-made m (single E c) = recurrence.made m.selector c
+made m job = option_map_or (recurrence.made m.selector) (worked_by job) 0
 
 abbrev pub left : Make → Job → ℕ
-left m (settled a) = 0
-left m (fixed c) = recurrence.left m.selector c
-left m (single E c) = recurrence.left m.selector c
+left m job = option_map_or (recurrence.left m.selector) (worked_by job) 0
 
--- the partial result
 abbrev pub partial : Job → ℕ
-partial (settled a) = 0
-partial (fixed c) = recurrence.partial_result c
-partial (single E c) = recurrence.partial_result c
+partial job = option_map_or recurrence.partial_result (worked_by job) 0
 
 -- what a job tells once no digit is left
-abbrev pub fixed_answer : Option Outcome → Option Answer
-fixed_answer None = None
-fixed_answer (Some o) = Some (record { word = o.f; marks = marks_of o.exact })
-
-abbrev pub single_answer : Mode → ℤ → Option Outcome → Option Answer
-single_answer mode E None = None
-single_answer mode E (Some o) = Some (rounded mode E o)
+abbrev pub fixed_answer : Outcome → Answer
+fixed_answer o = record { word = o.f; marks = marks_of o.exact }
 
 abbrev pub told : Make → Mode → Job → Option Answer
 told m mode (settled a) = Some a
-told m mode (fixed c) = fixed_answer (recurrence.outcome m.selector m.form c)
-told m mode (single E c) = single_answer mode E (recurrence.outcome m.selector m.form c)
+told m mode (fixed c) = option_map fixed_answer (recurrence.outcome m.selector m.form c)
+told m mode (single E c) = option_map (rounded mode E) (recurrence.outcome m.selector m.form c)

@@ -1,5 +1,5 @@
 -- The story of a slow job that outlives its hold, and of the holder who has the lane after it.
-use Rattle.std.specs.Prelude.{◌≡◌, List, [], ◌∷◌, ◌++◌, map, None}
+use Rattle.std.specs.Prelude.{◌≡◌, List, [], ◌∷◌, ◌++◌, map, None, Ok, Err}
 use Rattle.selection.specs.Operands.{Contained}
 use Rattle.single.specs.declared.mode.Mode.{Mode}
 use Rattle.single.specs.declared.mode.Mode.TheVariants.{Nearest}
@@ -9,7 +9,7 @@ use Rattle.protocol.specs.declared.call.Name.{Name}
 use Rattle.protocol.specs.declared.call.Request.TheVariants.{Load, Step, Look, Collect, Give}
 use Rattle.protocol.specs.declared.call.Call.{Call}
 use Rattle.protocol.specs.declared.call.Call.TheVariants.{Tick, Take, Ask}
-use Rattle.protocol.specs.declared.call.Reply.TheVariants.{Refused, Told}
+use Rattle.protocol.specs.declared.call.Reply.TheVariants.{Told}
 use Rattle.protocol.specs.declared.call.Play.{Play}
 use Rattle.protocol.specs.Operands.{Make, Lawful, Operand, partial_result, Right}
 use Rattle.protocol.specs.Operands.Operand.{fixed}
@@ -60,13 +60,13 @@ pub record GoesWell (m : Make) : Type 0 where
   -- At tick 4 the slow holder's hold is in force, to its deadline 5.
   pub in_force : InForce slow 5 (history m at_work)
   -- Its late give is refused by 9,
-  pub refused : next_answer m handed_over (Ask slow Give) ≡ Refused NotInForce
+  pub refused : next_answer m handed_over (Ask slow Give) ≡ Err NotInForce
   -- and whatever calls come later, what the next holder is told is what it would have been told without it.
   pub unchanged : (later : List Call) → answers (told_to next (history m (later ++ cleaned_up))) ≡ answers (told_to next (history m (later ++ handed_over)))
   -- The next holder's partial result is within the bound from the start,
   pub start : Contained m.selector.bits m.selector.largest 4 4 5 0 (partial_result m operand 0)
   -- and it is told what is right.
-  pub collected : (mode : Mode) → (a : Answer) × (next_answer m worked_off (Ask next (Collect mode)) ≡ Told a) × Right mode operand a.word a.marks
+  pub collected : (mode : Mode) → (a : Answer) × (next_answer m worked_off (Ask next (Collect mode)) ≡ Ok (Told a)) × Right mode operand a.word a.marks
 
 -- It goes so whatever the bank is made of.
 abbrev pub GoesWellEverywhere : Type 0

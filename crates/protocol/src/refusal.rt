@@ -1,10 +1,12 @@
 ghost use Rattle.std.specs.Prelude.{◌≡◌};
-ghost use Rattle.protocol.specs.Refusals.{number};
+ghost use Rattle.protocol.specs.Refusals.{number, cause};
+ghost use Rattle.protocol.specs.declared.refusal.Refusal.TheVariants.{Operand};
 
 use selection::refusal::Refusal as OperandRefusal;
+use std::fmt;
 
 /// Why a bank refuses a call.
-#[derive(Clone, Copy, Drop)]
+#[derive(Clone, Copy, Drop, PartialEq, Eq, Debug)]
 pub enum Refusal {
     /// The operand's width, places or range.
     Operand(OperandRefusal),
@@ -44,6 +46,33 @@ impl Refusal {
             Refusal::NoJob => 11,
             Refusal::DigitsLeft => 12,
             Refusal::BelowClock => 13,
+        }
+    }
+}
+
+impl From<OperandRefusal> for Refusal {
+    ghost from_gives = { λ e r. r ≡ Operand e };
+
+    fn from(refusal: OperandRefusal) -> Refusal {
+        Refusal::Operand(refusal)
+    }
+}
+
+impl fmt::Display for Refusal {
+    ghost output = { cause };
+
+    fn fmt<W: fmt::Write>(&self, f: &mut fmt::Formatter<W>) -> fmt::Result {
+        match self {
+            Refusal::Operand(refusal) => write!(f, "{refusal}"),
+            Refusal::NoSuchLane => write!(f, "the lane is above 7"),
+            Refusal::LaneHeld => write!(f, "the lane is held"),
+            Refusal::Ticks => write!(f, "the ticks are 0, or the deadline is above 2^32 - 1"),
+            Refusal::SerialsUsedUp => write!(f, "the last serial, 2^32 - 1, is handed out"),
+            Refusal::NotInForce => write!(f, "the hold is not in force"),
+            Refusal::AlreadyLoaded => write!(f, "a job is already loaded"),
+            Refusal::NoJob => write!(f, "no job is loaded"),
+            Refusal::DigitsLeft => write!(f, "digits are still to make"),
+            Refusal::BelowClock => write!(f, "the time is below the clock"),
         }
     }
 }

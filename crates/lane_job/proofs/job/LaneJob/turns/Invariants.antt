@@ -4,5 +4,5 @@ use Rattle.protocol.specs.Jobs.{turns}
 use Rattle.lane_job.specs.Seen.{seen_job}
 use Rattle.lane_job.proofs.job.LaneJob.turns.Given as goal
 
-abbrev pub invariant-loop-i : goal.invariant-loop-i
-invariant-loop-i g l = seen_job l.job ≡ turns (make (g.S.Selector.model l.selector) (g.F.NumberForm.model l.form)) l.i (seen_job l.initial.job)
+abbrev pub invariant-loop : goal.invariant-loop
+invariant-loop g l = seen_job l.job ≡ turns (make (g.S.Selector.model l.selector) (g.F.NumberForm.model l.form)) l.counter (seen_job l.initial.job)
