@@ -19,49 +19,45 @@ use single::mode::Mode;
 impl<S: Selector, F: NumberForm> Bank<S, F> {
     /// Loads a fixed-point job, by the hold's name: the operand x of width K, to be worked to Q places.
     pub fn load(&mut self, name: Name, k: u32, q: u32, x: u32) -> Result<(), Refusal>
-        ensures answers { done result ≡ answer (make (S.Selector.model self.old.selector) (F.NumberForm.model self.old.form)) (seen self.old.lanes) (Ask name (Load k q x)) }
-        ensures leaves { seen self.new.lanes ≡ after (make (S.Selector.model self.old.selector) (F.NumberForm.model self.old.form)) (seen self.old.lanes) (Ask name (Load k q x)) }
-        ensures selector { self.new.selector ≡ self.old.selector }
-        ensures form { self.new.form ≡ self.old.form }
+        ensures answers { done result ≡ answer (make (S.Selector.model self.old.make.selector) (F.NumberForm.model self.old.make.form)) (seen self.old.lanes) (Ask name (Load k q x)) }
+        ensures leaves { seen self.new.lanes ≡ after (make (S.Selector.model self.old.make.selector) (F.NumberForm.model self.old.make.form)) (seen self.old.lanes) (Ask name (Load k q x)) }
+        ensures make { self.new.make ≡ self.old.make }
     {
         let holder = self.lanes.in_force(name)?;
-        let job = serve_load(&self.selector, &self.form, holder.job, k, q, x)?;
+        let job = serve_load(&self.make, holder.job, k, q, x)?;
         self.lanes.put(name.lane, Some(holder.with_job(job)));
         Ok(())
     }
 
     /// Loads a single's job, by the hold's name.
     pub fn load32(&mut self, name: Name, word: u32) -> Result<(), Refusal>
-        ensures answers { done result ≡ answer (make (S.Selector.model self.old.selector) (F.NumberForm.model self.old.form)) (seen self.old.lanes) (Ask name (Load32 word)) }
-        ensures leaves { seen self.new.lanes ≡ after (make (S.Selector.model self.old.selector) (F.NumberForm.model self.old.form)) (seen self.old.lanes) (Ask name (Load32 word)) }
-        ensures selector { self.new.selector ≡ self.old.selector }
-        ensures form { self.new.form ≡ self.old.form }
+        ensures answers { done result ≡ answer (make (S.Selector.model self.old.make.selector) (F.NumberForm.model self.old.make.form)) (seen self.old.lanes) (Ask name (Load32 word)) }
+        ensures leaves { seen self.new.lanes ≡ after (make (S.Selector.model self.old.make.selector) (F.NumberForm.model self.old.make.form)) (seen self.old.lanes) (Ask name (Load32 word)) }
+        ensures make { self.new.make ≡ self.old.make }
     {
         let holder = self.lanes.in_force(name)?;
-        let job = serve_load32(&self.selector, &self.form, holder.job, word)?;
+        let job = serve_load32(&self.make, holder.job, word)?;
         self.lanes.put(name.lane, Some(holder.with_job(job)));
         Ok(())
     }
 
     /// Makes the lesser of the count and the digits left, by the hold's name, and tells how many.
     pub fn step(&mut self, name: Name, count: u32) -> Result<u32, Refusal>
-        ensures answers { stepped result ≡ answer (make (S.Selector.model self.old.selector) (F.NumberForm.model self.old.form)) (seen self.old.lanes) (Ask name (Step count)) }
-        ensures leaves { seen self.new.lanes ≡ after (make (S.Selector.model self.old.selector) (F.NumberForm.model self.old.form)) (seen self.old.lanes) (Ask name (Step count)) }
-        ensures selector { self.new.selector ≡ self.old.selector }
-        ensures form { self.new.form ≡ self.old.form }
+        ensures answers { stepped result ≡ answer (make (S.Selector.model self.old.make.selector) (F.NumberForm.model self.old.make.form)) (seen self.old.lanes) (Ask name (Step count)) }
+        ensures leaves { seen self.new.lanes ≡ after (make (S.Selector.model self.old.make.selector) (F.NumberForm.model self.old.make.form)) (seen self.old.lanes) (Ask name (Step count)) }
+        ensures make { self.new.make ≡ self.old.make }
     {
         let holder = self.lanes.in_force(name)?;
-        let (digits, job) = serve_step(&self.selector, &self.form, holder.job, count)?;
+        let (digits, job) = serve_step(&self.make, holder.job, count)?;
         self.lanes.put(name.lane, Some(holder.with_job(job)));
         Ok(digits)
     }
 
     /// Frees the lane, by the hold's name.
     pub fn give(&mut self, name: Name) -> Result<(), Refusal>
-        ensures answers { done result ≡ answer (make (S.Selector.model self.old.selector) (F.NumberForm.model self.old.form)) (seen self.old.lanes) (Ask name Give) }
-        ensures leaves { seen self.new.lanes ≡ after (make (S.Selector.model self.old.selector) (F.NumberForm.model self.old.form)) (seen self.old.lanes) (Ask name Give) }
-        ensures selector { self.new.selector ≡ self.old.selector }
-        ensures form { self.new.form ≡ self.old.form }
+        ensures answers { done result ≡ answer (make (S.Selector.model self.old.make.selector) (F.NumberForm.model self.old.make.form)) (seen self.old.lanes) (Ask name Give) }
+        ensures leaves { seen self.new.lanes ≡ after (make (S.Selector.model self.old.make.selector) (F.NumberForm.model self.old.make.form)) (seen self.old.lanes) (Ask name Give) }
+        ensures make { self.new.make ≡ self.old.make }
     {
         let _ = self.lanes.in_force(name)?;
         self.lanes.put(name.lane, None);
@@ -70,10 +66,9 @@ impl<S: Selector, F: NumberForm> Bank<S, F> {
 
     /// Tells word and marks in a mode, by the hold's name, and frees the lane. What becomes of the marks is the caller's.
     pub fn collect(&mut self, name: Name, mode: Mode) -> Result<Answer, Refusal>
-        ensures answers { told result ≡ answer (make (S.Selector.model self.old.selector) (F.NumberForm.model self.old.form)) (seen self.old.lanes) (Ask name (Collect mode)) }
-        ensures leaves { seen self.new.lanes ≡ after (make (S.Selector.model self.old.selector) (F.NumberForm.model self.old.form)) (seen self.old.lanes) (Ask name (Collect mode)) }
-        ensures selector { self.new.selector ≡ self.old.selector }
-        ensures form { self.new.form ≡ self.old.form }
+        ensures answers { told result ≡ answer (make (S.Selector.model self.old.make.selector) (F.NumberForm.model self.old.make.form)) (seen self.old.lanes) (Ask name (Collect mode)) }
+        ensures leaves { seen self.new.lanes ≡ after (make (S.Selector.model self.old.make.selector) (F.NumberForm.model self.old.make.form)) (seen self.old.lanes) (Ask name (Collect mode)) }
+        ensures make { self.new.make ≡ self.old.make }
     {
         let answer = self.tell(name, mode)?;
         self.lanes.put(name.lane, None);
@@ -82,39 +77,37 @@ impl<S: Selector, F: NumberForm> Bank<S, F> {
 
     /// Tells the digits made and the partial result, by the hold's name.
     pub fn look(&self, name: Name) -> Result<(u32, u32), Refusal>
-        ensures answers { shown result ≡ answer (make (S.Selector.model self.now.selector) (F.NumberForm.model self.now.form)) (seen self.now.lanes) (Ask name Look) }
+        ensures answers { shown result ≡ answer (make (S.Selector.model self.now.make.selector) (F.NumberForm.model self.now.make.form)) (seen self.now.lanes) (Ask name Look) }
         ensures few { FewMade result }
-        ensures leaves { seen self.now.lanes ≡ after (make (S.Selector.model self.now.selector) (F.NumberForm.model self.now.form)) (seen self.now.lanes) (Ask name Look) }
+        ensures leaves { seen self.now.lanes ≡ after (make (S.Selector.model self.now.make.selector) (F.NumberForm.model self.now.make.form)) (seen self.now.lanes) (Ask name Look) }
     {
         let holder = self.lanes.in_force(name)?;
-        serve_look(&self.selector, &self.form, holder.job)
+        serve_look(&self.make, holder.job)
     }
 
     /// Tells the word and the marks that a collect in a mode would tell, by the hold's name, and leaves the lane held.
     pub fn tell(&self, name: Name, mode: Mode) -> Result<Answer, Refusal>
-        ensures answers { told result ≡ answer (make (S.Selector.model self.now.selector) (F.NumberForm.model self.now.form)) (seen self.now.lanes) (Ask name (Collect mode)) }
+        ensures answers { told result ≡ answer (make (S.Selector.model self.now.make.selector) (F.NumberForm.model self.now.make.form)) (seen self.now.lanes) (Ask name (Collect mode)) }
         ensures lane { ToldBelowEight name.lane result }
     {
         let holder = self.lanes.in_force(name)?;
-        serve_collect(&self.selector, &self.form, holder.job, mode)
+        serve_collect(&self.make, holder.job, mode)
     }
 
     /// Sets the clock, frees every lane whose deadline it reaches, and drops the jobs of those.
     pub fn tick(&mut self, time: u32) -> Result<(), Refusal>
-        ensures answers { done result ≡ answer (make (S.Selector.model self.old.selector) (F.NumberForm.model self.old.form)) (seen self.old.lanes) (Tick time) }
-        ensures leaves { seen self.new.lanes ≡ after (make (S.Selector.model self.old.selector) (F.NumberForm.model self.old.form)) (seen self.old.lanes) (Tick time) }
-        ensures selector { self.new.selector ≡ self.old.selector }
-        ensures form { self.new.form ≡ self.old.form }
+        ensures answers { done result ≡ answer (make (S.Selector.model self.old.make.selector) (F.NumberForm.model self.old.make.form)) (seen self.old.lanes) (Tick time) }
+        ensures leaves { seen self.new.lanes ≡ after (make (S.Selector.model self.old.make.selector) (F.NumberForm.model self.old.make.form)) (seen self.old.lanes) (Tick time) }
+        ensures make { self.new.make ≡ self.old.make }
     {
         self.lanes.tick(time)
     }
 
     /// Takes a lane for some ticks, and tells the serial; lane and serial are the hold's name.
     pub fn take(&mut self, lane: u32, ticks: u32) -> Result<u32, Refusal>
-        ensures answers { took result ≡ answer (make (S.Selector.model self.old.selector) (F.NumberForm.model self.old.form)) (seen self.old.lanes) (Take lane ticks) }
-        ensures leaves { seen self.new.lanes ≡ after (make (S.Selector.model self.old.selector) (F.NumberForm.model self.old.form)) (seen self.old.lanes) (Take lane ticks) }
-        ensures selector { self.new.selector ≡ self.old.selector }
-        ensures form { self.new.form ≡ self.old.form }
+        ensures answers { took result ≡ answer (make (S.Selector.model self.old.make.selector) (F.NumberForm.model self.old.make.form)) (seen self.old.lanes) (Take lane ticks) }
+        ensures leaves { seen self.new.lanes ≡ after (make (S.Selector.model self.old.make.selector) (F.NumberForm.model self.old.make.form)) (seen self.old.lanes) (Take lane ticks) }
+        ensures make { self.new.make ≡ self.old.make }
     {
         self.lanes.take(lane, ticks)
     }

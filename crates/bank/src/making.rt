@@ -11,6 +11,7 @@ use lanes::lanes::Lanes;
 use number_form::NumberForm;
 use protocol::call::{Call, Name, Reply, Request};
 use protocol::refusal::Refusal;
+use recurrence::make::Make;
 use selection::Selector;
 
 impl<S: Selector, F: NumberForm> Bank<S, F> {
@@ -18,8 +19,8 @@ impl<S: Selector, F: NumberForm> Bank<S, F> {
     /// whoever has a bank has made one.
     pub fn new(selector: S, form: F) -> Bank<S, F>
         ensures fresh { seen result.lanes ≡ new }
-        ensures selector { result.selector ≡ selector }
-        ensures form { result.form ≡ form }
+        ensures selector { result.make.selector ≡ selector }
+        ensures form { result.make.form ≡ form }
         ensures lawful { Lawful (make (S.Selector.model selector) (F.NumberForm.model form)) }
         ensures refusals { RefusalsLeave }
         ensures share { HoldersShare }
@@ -27,8 +28,7 @@ impl<S: Selector, F: NumberForm> Bank<S, F> {
         selector.lawful();
         form.lawful();
         Bank {
-            selector,
-            form,
+            make: Make { selector, form },
             lanes: Lanes::new(),
         }
     }
@@ -36,10 +36,9 @@ impl<S: Selector, F: NumberForm> Bank<S, F> {
     /// Makes one of the eight calls.
     pub fn answer(&mut self, call: Call) -> Result<Reply, Refusal>
         ensures few { FewShown result }
-        ensures answers { result ≡ answer (make (S.Selector.model self.old.selector) (F.NumberForm.model self.old.form)) (seen self.old.lanes) call }
-        ensures leaves { seen self.new.lanes ≡ after (make (S.Selector.model self.old.selector) (F.NumberForm.model self.old.form)) (seen self.old.lanes) call }
-        ensures selector { self.new.selector ≡ self.old.selector }
-        ensures form { self.new.form ≡ self.old.form }
+        ensures answers { result ≡ answer (make (S.Selector.model self.old.make.selector) (F.NumberForm.model self.old.make.form)) (seen self.old.lanes) call }
+        ensures leaves { seen self.new.lanes ≡ after (make (S.Selector.model self.old.make.selector) (F.NumberForm.model self.old.make.form)) (seen self.old.lanes) call }
+        ensures make { self.new.make ≡ self.old.make }
     {
         match call {
             Call::Tick { time } => self.tick(time).and(Ok(Reply::Done)),
@@ -53,10 +52,9 @@ impl<S: Selector, F: NumberForm> Bank<S, F> {
     /// Makes one of the six calls with a hold.
     fn answer_request(&mut self, name: Name, request: Request) -> Result<Reply, Refusal>
         ensures few { FewShown result }
-        ensures answers { result ≡ answer (make (S.Selector.model self.old.selector) (F.NumberForm.model self.old.form)) (seen self.old.lanes) (Ask name request) }
-        ensures leaves { seen self.new.lanes ≡ after (make (S.Selector.model self.old.selector) (F.NumberForm.model self.old.form)) (seen self.old.lanes) (Ask name request) }
-        ensures selector { self.new.selector ≡ self.old.selector }
-        ensures form { self.new.form ≡ self.old.form }
+        ensures answers { result ≡ answer (make (S.Selector.model self.old.make.selector) (F.NumberForm.model self.old.make.form)) (seen self.old.lanes) (Ask name request) }
+        ensures leaves { seen self.new.lanes ≡ after (make (S.Selector.model self.old.make.selector) (F.NumberForm.model self.old.make.form)) (seen self.old.lanes) (Ask name request) }
+        ensures make { self.new.make ≡ self.old.make }
     {
         match request {
             Request::Load { k, q, x } => self.load(name, k, q, x).and(Ok(Reply::Done)),

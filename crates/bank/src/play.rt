@@ -11,11 +11,10 @@ use selection::Selector;
 impl<S: Selector, F: NumberForm> Bank<S, F> {
     /// Makes the calls of a list, one upon the result of another, and writes down what each is answered.
     pub fn play(&mut self, plays: &mut [Play])
-        ensures answers { plays.new ≡ replied (make (S.Selector.model self.old.selector) (F.NumberForm.model self.old.form)) (seen self.old.lanes) plays.old }
-        ensures leaves { seen self.new.lanes ≡ played (make (S.Selector.model self.old.selector) (F.NumberForm.model self.old.form)) (seen self.old.lanes) plays.old }
-        ensures history { StandsInHistory (make (S.Selector.model self.old.selector) (F.NumberForm.model self.old.form)) (seen self.old.lanes) plays.old plays.new (seen self.new.lanes) }
-        ensures selector { self.new.selector ≡ self.old.selector }
-        ensures form { self.new.form ≡ self.old.form }
+        ensures answers { plays.new ≡ replied (make (S.Selector.model self.old.make.selector) (F.NumberForm.model self.old.make.form)) (seen self.old.lanes) plays.old }
+        ensures leaves { seen self.new.lanes ≡ played (make (S.Selector.model self.old.make.selector) (F.NumberForm.model self.old.make.form)) (seen self.old.lanes) plays.old }
+        ensures history { StandsInHistory (make (S.Selector.model self.old.make.selector) (F.NumberForm.model self.old.make.form)) (seen self.old.lanes) plays.old plays.new (seen self.new.lanes) }
+        ensures make { self.new.make ≡ self.old.make }
     {
         for play in plays.iter_mut() {
             let reply = self.answer(play.call);

@@ -10,8 +10,7 @@ ghost use Rattle.hold.specs.Holds.{TakenBy, GivenBy, CollectedBy};
 
 use crate::hold::{Hold, Rejected};
 use bank::bank::Bank;
-use control::control::Control;
-use control::span::Span;
+use control::collecting::Collecting;
 use number_form::NumberForm;
 use protocol::call::Name;
 use protocol::refusal::Refusal;
@@ -25,10 +24,9 @@ impl Hold {
         lane: u32,
         ticks: u32,
     ) -> Result<Hold, Refusal>
-        ensures answers { TakenBy (make (S.Selector.model bank.old.selector) (F.NumberForm.model bank.old.form)) (seen bank.old.lanes) lane ticks result }
-        ensures leaves { seen bank.new.lanes ≡ after (make (S.Selector.model bank.old.selector) (F.NumberForm.model bank.old.form)) (seen bank.old.lanes) (Take lane ticks) }
-        ensures selector { bank.new.selector ≡ bank.old.selector }
-        ensures form { bank.new.form ≡ bank.old.form }
+        ensures answers { TakenBy (make (S.Selector.model bank.old.make.selector) (F.NumberForm.model bank.old.make.form)) (seen bank.old.lanes) lane ticks result }
+        ensures leaves { seen bank.new.lanes ≡ after (make (S.Selector.model bank.old.make.selector) (F.NumberForm.model bank.old.make.form)) (seen bank.old.lanes) (Take lane ticks) }
+        ensures make { bank.new.make ≡ bank.old.make }
     {
         let serial = bank.take(lane, ticks)?;
         Ok(Hold {
@@ -44,10 +42,9 @@ impl Hold {
         q: u32,
         x: u32,
     ) -> Result<(), Refusal>
-        ensures answers { done result ≡ answer (make (S.Selector.model bank.old.selector) (F.NumberForm.model bank.old.form)) (seen bank.old.lanes) (Ask self.now.numbers (Load k q x)) }
-        ensures leaves { seen bank.new.lanes ≡ after (make (S.Selector.model bank.old.selector) (F.NumberForm.model bank.old.form)) (seen bank.old.lanes) (Ask self.now.numbers (Load k q x)) }
-        ensures selector { bank.new.selector ≡ bank.old.selector }
-        ensures form { bank.new.form ≡ bank.old.form }
+        ensures answers { done result ≡ answer (make (S.Selector.model bank.old.make.selector) (F.NumberForm.model bank.old.make.form)) (seen bank.old.lanes) (Ask self.now.numbers (Load k q x)) }
+        ensures leaves { seen bank.new.lanes ≡ after (make (S.Selector.model bank.old.make.selector) (F.NumberForm.model bank.old.make.form)) (seen bank.old.lanes) (Ask self.now.numbers (Load k q x)) }
+        ensures make { bank.new.make ≡ bank.old.make }
     {
         bank.load(self.name(), k, q, x)
     }
@@ -58,10 +55,9 @@ impl Hold {
         bank: &mut Bank<S, F>,
         word: u32,
     ) -> Result<(), Refusal>
-        ensures answers { done result ≡ answer (make (S.Selector.model bank.old.selector) (F.NumberForm.model bank.old.form)) (seen bank.old.lanes) (Ask self.now.numbers (Load32 word)) }
-        ensures leaves { seen bank.new.lanes ≡ after (make (S.Selector.model bank.old.selector) (F.NumberForm.model bank.old.form)) (seen bank.old.lanes) (Ask self.now.numbers (Load32 word)) }
-        ensures selector { bank.new.selector ≡ bank.old.selector }
-        ensures form { bank.new.form ≡ bank.old.form }
+        ensures answers { done result ≡ answer (make (S.Selector.model bank.old.make.selector) (F.NumberForm.model bank.old.make.form)) (seen bank.old.lanes) (Ask self.now.numbers (Load32 word)) }
+        ensures leaves { seen bank.new.lanes ≡ after (make (S.Selector.model bank.old.make.selector) (F.NumberForm.model bank.old.make.form)) (seen bank.old.lanes) (Ask self.now.numbers (Load32 word)) }
+        ensures make { bank.new.make ≡ bank.old.make }
     {
         bank.load32(self.name(), word)
     }
@@ -72,32 +68,32 @@ impl Hold {
         bank: &mut Bank<S, F>,
         count: u32,
     ) -> Result<u32, Refusal>
-        ensures answers { stepped result ≡ answer (make (S.Selector.model bank.old.selector) (F.NumberForm.model bank.old.form)) (seen bank.old.lanes) (Ask self.now.numbers (Step count)) }
-        ensures leaves { seen bank.new.lanes ≡ after (make (S.Selector.model bank.old.selector) (F.NumberForm.model bank.old.form)) (seen bank.old.lanes) (Ask self.now.numbers (Step count)) }
-        ensures selector { bank.new.selector ≡ bank.old.selector }
-        ensures form { bank.new.form ≡ bank.old.form }
+        ensures answers { stepped result ≡ answer (make (S.Selector.model bank.old.make.selector) (F.NumberForm.model bank.old.make.form)) (seen bank.old.lanes) (Ask self.now.numbers (Step count)) }
+        ensures leaves { seen bank.new.lanes ≡ after (make (S.Selector.model bank.old.make.selector) (F.NumberForm.model bank.old.make.form)) (seen bank.old.lanes) (Ask self.now.numbers (Step count)) }
+        ensures make { bank.new.make ≡ bank.old.make }
     {
         bank.step(self.name(), count)
     }
 
     /// Tells the digits made and the partial result.
     pub fn look<S: Selector, F: NumberForm>(&self, bank: &Bank<S, F>) -> Result<(u32, u32), Refusal>
-        ensures answers { shown result ≡ answer (make (S.Selector.model bank.now.selector) (F.NumberForm.model bank.now.form)) (seen bank.now.lanes) (Ask self.now.numbers Look) }
-        ensures leaves { seen bank.now.lanes ≡ after (make (S.Selector.model bank.now.selector) (F.NumberForm.model bank.now.form)) (seen bank.now.lanes) (Ask self.now.numbers Look) }
+        ensures answers { shown result ≡ answer (make (S.Selector.model bank.now.make.selector) (F.NumberForm.model bank.now.make.form)) (seen bank.now.lanes) (Ask self.now.numbers Look) }
+        ensures leaves { seen bank.now.lanes ≡ after (make (S.Selector.model bank.now.make.selector) (F.NumberForm.model bank.now.make.form)) (seen bank.now.lanes) (Ask self.now.numbers Look) }
     {
         bank.look(self.name())
     }
 
-    /// Tells word and marks in the control's mode, adds the marks to the control, frees the lane and uses up the hold.
-    pub fn collect<S: Selector, F: NumberForm>(
+    /// Tells word and marks in the mode of a control, or of a span that stands for one, adds the marks to it, frees the lane and uses up the
+    /// hold.
+    pub fn collect<S: Selector, F: NumberForm, C: Collecting>(
         self,
         bank: &mut Bank<S, F>,
-        control: &mut Control,
+        control: &mut C,
     ) -> Result<Answer, Rejected>
-        ensures answers { CollectedBy (make (S.Selector.model bank.old.selector) (F.NumberForm.model bank.old.form)) (seen bank.old.lanes) self control.old control.new result }
-        ensures leaves { seen bank.new.lanes ≡ after (make (S.Selector.model bank.old.selector) (F.NumberForm.model bank.old.form)) (seen bank.old.lanes) (Ask self.numbers (Collect control.old.mode)) }
-        ensures selector { bank.new.selector ≡ bank.old.selector }
-        ensures form { bank.new.form ≡ bank.old.form }
+        ensures keeps { C.keeps control.old control.new }
+        ensures answers { CollectedBy (make (S.Selector.model bank.old.make.selector) (F.NumberForm.model bank.old.make.form)) (seen bank.old.lanes) self (C.control control.old) (C.control control.new) result }
+        ensures leaves { seen bank.new.lanes ≡ after (make (S.Selector.model bank.old.make.selector) (F.NumberForm.model bank.old.make.form)) (seen bank.old.lanes) (Ask self.numbers (Collect (C.control control.old).mode)) }
+        ensures make { bank.new.make ≡ bank.old.make }
     {
         let answer = bank
             .collect(self.name(), control.mode())
@@ -109,35 +105,11 @@ impl Hold {
         Ok(answer)
     }
 
-    /// Collects in a span: tells word and marks in the span's mode, adds the marks to its control, frees the lane and uses up the hold.
-    pub fn collect_in<S: Selector, F: NumberForm>(
-        self,
-        bank: &mut Bank<S, F>,
-        span: &mut Span<'_>,
-    ) -> Result<Answer, Rejected>
-        ensures same { span.new.control.ghost_name ≡ span.old.control.ghost_name }
-        ensures earlier { span.new.earlier ≡ span.old.earlier }
-        ensures answers { CollectedBy (make (S.Selector.model bank.old.selector) (F.NumberForm.model bank.old.form)) (seen bank.old.lanes) self span.old.control.now span.new.control.now result }
-        ensures leaves { seen bank.new.lanes ≡ after (make (S.Selector.model bank.old.selector) (F.NumberForm.model bank.old.form)) (seen bank.old.lanes) (Ask self.numbers (Collect span.old.control.now.mode)) }
-        ensures selector { bank.new.selector ≡ bank.old.selector }
-        ensures form { bank.new.form ≡ bank.old.form }
-    {
-        let answer = bank
-            .collect(self.name(), span.mode())
-            .map_err(|refusal| Rejected {
-                hold: self,
-                refusal,
-            })?;
-        span.raise(answer.marks);
-        Ok(answer)
-    }
-
     /// Frees the lane and uses up the hold.
     pub fn give<S: Selector, F: NumberForm>(self, bank: &mut Bank<S, F>) -> Result<(), Rejected>
-        ensures answers { GivenBy (make (S.Selector.model bank.old.selector) (F.NumberForm.model bank.old.form)) (seen bank.old.lanes) self result }
-        ensures leaves { seen bank.new.lanes ≡ after (make (S.Selector.model bank.old.selector) (F.NumberForm.model bank.old.form)) (seen bank.old.lanes) (Ask self.numbers Give) }
-        ensures selector { bank.new.selector ≡ bank.old.selector }
-        ensures form { bank.new.form ≡ bank.old.form }
+        ensures answers { GivenBy (make (S.Selector.model bank.old.make.selector) (F.NumberForm.model bank.old.make.form)) (seen bank.old.lanes) self result }
+        ensures leaves { seen bank.new.lanes ≡ after (make (S.Selector.model bank.old.make.selector) (F.NumberForm.model bank.old.make.form)) (seen bank.old.lanes) (Ask self.numbers Give) }
+        ensures make { bank.new.make ≡ bank.old.make }
     {
         bank.give(self.name()).map_err(|refusal| Rejected {
             hold: self,

@@ -1,7 +1,7 @@
 ghost use Rattle.std.specs.Prelude.{◌≡◌, ◌≤◌};
 ghost use Rattle.std.specs.Option.{option_map};
 ghost use Rattle.recurrence.specs.Recurrence as recurrence;
-ghost use Rattle.protocol.specs.Operands.{make};
+ghost use Rattle.protocol.specs.Operands.{make as make_of};
 ghost use Rattle.protocol.specs.Operands.Operand.{fixed, single};
 ghost use Rattle.protocol.specs.Jobs.{begun, turned, turns, made, left, partial, told, fixed_answer, worked_by};
 ghost use Rattle.lane_job.specs.Seen.{seen_job};
@@ -9,6 +9,7 @@ ghost use Rattle.lane_job.specs.Seen.{seen_job};
 use crate::job::LaneJob;
 use number_form::NumberForm;
 use recurrence::job::Job;
+use recurrence::make::Make;
 use recurrence::registers::Outcome;
 use selection::Selector;
 use selection::operand::Operand;
@@ -19,62 +20,49 @@ use single::mode::Mode;
 
 impl LaneJob {
     /// Begins a fixed-point job.
-    pub(crate) fn begin<S: Selector, F: NumberForm>(
-        selector: &S,
-        form: &F,
-        operand: Operand,
-    ) -> LaneJob
-        ensures { seen_job result ≡ begun (make (S.Selector.model selector.now) (F.NumberForm.model form.now)) (fixed operand.k operand.q operand.x) }
+    pub(crate) fn begin<S: Selector, F: NumberForm>(make: &Make<S, F>, operand: Operand) -> LaneJob
+        ensures { seen_job result ≡ begun (make_of (S.Selector.model make.now.selector) (F.NumberForm.model make.now.form)) (fixed operand.k operand.q operand.x) }
     {
-        LaneJob::Fixed(Job::begin(selector, form, operand))
+        LaneJob::Fixed(Job::begin(make, operand))
     }
 
     /// Begins a single's job.
-    pub(crate) fn begin_single<S: Selector, F: NumberForm>(
-        selector: &S,
-        form: &F,
-        word: u32,
-    ) -> LaneJob
-        ensures { seen_job result ≡ begun (make (S.Selector.model selector.now) (F.NumberForm.model form.now)) (single word) }
+    pub(crate) fn begin_single<S: Selector, F: NumberForm>(make: &Make<S, F>, word: u32) -> LaneJob
+        ensures { seen_job result ≡ begun (make_of (S.Selector.model make.now.selector) (F.NumberForm.model make.now.form)) (single word) }
     {
-        match Decoded::of(word) {
+        match Decoded::from(word) {
             Decoded::Special(special) => LaneJob::Settled(special.answer()),
             Decoded::Positive(number) => {
-                let job = Job::begin(selector, form, number.operand());
+                let job = Job::begin(make, number.operand());
                 LaneJob::Single(number, job)
             }
         }
     }
 
     /// Makes one digit, where one is left to make.
-    pub(crate) fn turn<S: Selector, F: NumberForm>(self, selector: &S, form: &F) -> LaneJob
-        ensures { seen_job result ≡ turned (make (S.Selector.model selector.now) (F.NumberForm.model form.now)) (seen_job self) }
+    pub(crate) fn turn<S: Selector, F: NumberForm>(self, make: &Make<S, F>) -> LaneJob
+        ensures { seen_job result ≡ turned (make_of (S.Selector.model make.now.selector) (F.NumberForm.model make.now.form)) (seen_job self) }
     {
         match self {
             LaneJob::Settled(answer) => LaneJob::Settled(answer),
             LaneJob::Fixed(mut job) => {
-                let _ = job.turn(selector, form);
+                let _ = job.turn(make);
                 LaneJob::Fixed(job)
             }
             LaneJob::Single(number, mut job) => {
-                let _ = job.turn(selector, form);
+                let _ = job.turn(make);
                 LaneJob::Single(number, job)
             }
         }
     }
 
     /// Makes so many digits, one upon the other.
-    pub(crate) fn turns<S: Selector, F: NumberForm>(
-        self,
-        selector: &S,
-        form: &F,
-        count: u32,
-    ) -> LaneJob
-        ensures { seen_job result ≡ turns (make (S.Selector.model selector.now) (F.NumberForm.model form.now)) count (seen_job self) }
+    pub(crate) fn turns<S: Selector, F: NumberForm>(self, make: &Make<S, F>, count: u32) -> LaneJob
+        ensures { seen_job result ≡ turns (make_of (S.Selector.model make.now.selector) (F.NumberForm.model make.now.form)) count (seen_job self) }
     {
         let mut job = self;
         for _ in 0..count {
-            job = job.turn(selector, form);
+            job = job.turn(make);
         }
         job
     }
@@ -90,18 +78,18 @@ impl LaneJob {
     }
 
     /// Counts the digits made.
-    pub(crate) fn made<S: Selector, F: NumberForm>(self, selector: &S, form: &F) -> u32
-        ensures is { result ≡ made (make (S.Selector.model selector.now) (F.NumberForm.model form.now)) (seen_job self) }
+    pub(crate) fn made<S: Selector, F: NumberForm>(self, make: &Make<S, F>) -> u32
+        ensures is { result ≡ made (make_of (S.Selector.model make.now.selector) (F.NumberForm.model make.now.form)) (seen_job self) }
         ensures few { result ≤ 28 }
     {
-        self.worked_by().map_or(0, |job| job.made(selector))
+        self.worked_by().map_or(0, |job| job.made(&make.selector))
     }
 
     /// Counts the digits left to make.
-    pub(crate) fn left<S: Selector, F: NumberForm>(self, selector: &S, form: &F) -> u32
-        ensures { result ≡ left (make (S.Selector.model selector.now) (F.NumberForm.model form.now)) (seen_job self) }
+    pub(crate) fn left<S: Selector, F: NumberForm>(self, make: &Make<S, F>) -> u32
+        ensures { result ≡ left (make_of (S.Selector.model make.now.selector) (F.NumberForm.model make.now.form)) (seen_job self) }
     {
-        self.worked_by().map_or(0, |job| job.left(selector))
+        self.worked_by().map_or(0, |job| job.left(&make.selector))
     }
 
     /// Gives the partial result.
@@ -114,17 +102,16 @@ impl LaneJob {
     /// Tells word and marks, once no digit is left to make.
     pub(crate) fn told<S: Selector, F: NumberForm>(
         self,
-        selector: &S,
-        form: &F,
+        make: &Make<S, F>,
         mode: Mode,
     ) -> Option<Answer>
-        ensures { result ≡ told (make (S.Selector.model selector.now) (F.NumberForm.model form.now)) mode (seen_job self) }
+        ensures { result ≡ told (make_of (S.Selector.model make.now.selector) (F.NumberForm.model make.now.form)) mode (seen_job self) }
     {
         match self {
             LaneJob::Settled(answer) => Some(answer),
-            LaneJob::Fixed(job) => job.outcome(selector, form).map(fixed_answer),
+            LaneJob::Fixed(job) => job.outcome(make).map(fixed_answer),
             LaneJob::Single(number, job) => job
-                .outcome(selector, form)
+                .outcome(make)
                 .map(|outcome| number.round(outcome, mode)),
         }
     }

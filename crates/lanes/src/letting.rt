@@ -73,7 +73,7 @@ impl Lanes {
             return Err(Refusal::Ticks);
         }
         let deadline = self.clock.checked_add(ticks).ok_or(Refusal::Ticks)?;
-        let serial = u32::try_from(self.next).or(Err(Refusal::SerialsUsedUp))?;
+        let serial = u32::try_from(self.next).map_err(|_| Refusal::SerialsUsedUp)?;
         self.next += 1;
         let holder = Holder {
             serial,

@@ -6,5 +6,5 @@ use Rattle.bank.proofs.bank.Bank.play.Given as goal
 
 abbrev pub invariant-loop-play : goal.invariant-loop-play
 invariant-loop-play g l =
-    (l.self.selector ≡ l.initial.self.selector) × (l.self.form ≡ l.initial.self.form) ×
-    Midway (make (g.S.Selector.model l.initial.self.selector) (g.F.NumberForm.model l.initial.self.form)) (seen l.initial.self.lanes) l.initial.plays l.play-index l.plays (seen l.self.lanes)
+    (l.self.make ≡ l.initial.self.make) ×
+    Midway (make (g.S.Selector.model l.initial.self.make.selector) (g.F.NumberForm.model l.initial.self.make.form)) (seen l.initial.self.lanes) l.initial.plays l.play-index l.plays (seen l.self.lanes)
