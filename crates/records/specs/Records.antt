@@ -46,6 +46,7 @@ label_length marks = 0
 abbrev pub Front : Type 0 → Type 0
 Front A = Result (A × List ℕ) Defect
 
+-- a way to read a thing at the front of some bytes
 abbrev pub Reading : Type 0 → Type 0
 Reading A = List ℕ → Front A
 
@@ -55,13 +56,15 @@ then (Ok p) f = f p.0 p.1
 then (Err e) f = Err e
 
 infixl 10 ◌>>=◌
+-- one thing is read, and then another, which may depend on it
 abbrev pub ◌>>=◌ : {A B : Type 0} → Reading A → (A → Reading B) → Reading B
 (r >>= f) xs = then (r xs) f
 
+-- nothing more is read
 abbrev pub nothing_more : {A : Type 0} → A → Reading A
 nothing_more a xs = Ok (a, xs)
 
--- What one call of the code read, which took the bytes before to those after; each thing that is read stands for one of the definition.
+-- A call of the code reads what stands at the front of the bytes before, and leaves the bytes after; stands_for gives the definition's thing for the code's.
 abbrev pub Gives : {A B : Type 0} → Reading B → (A → B) → List ℕ → List ℕ → Result A Defect → Type 0
 Gives reading stands_for before after (Ok a) = reading before ≡ Ok (stands_for a, after)
 Gives reading stands_for before after (Err e) = reading before ≡ Err e

@@ -43,6 +43,7 @@ impl Fault {
 impl From<ModeRefusal> for Fault {
     ghost from_gives = { λ mode fault. fault ≡ Mode mode };
 
+    /// Makes a fault of a mode's refusal.
     fn from(mode: ModeRefusal) -> Fault {
         Fault::Mode(mode)
     }
@@ -51,6 +52,7 @@ impl From<ModeRefusal> for Fault {
 impl From<Refusal> for Fault {
     ghost from_gives = { λ refusal fault. fault ≡ Bank refusal };
 
+    /// Makes a fault of a bank's refusal.
     fn from(bank: Refusal) -> Fault {
         Fault::Bank(bank)
     }
@@ -59,6 +61,7 @@ impl From<Refusal> for Fault {
 impl From<NumberFault> for Fault {
     ghost from_gives = { λ number fault. fault ≡ Number number };
 
+    /// Makes a fault of a number's fault.
     fn from(number: NumberFault) -> Fault {
         Fault::Number(number)
     }
