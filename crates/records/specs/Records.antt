@@ -1,5 +1,5 @@
 -- Records: the one at the front of some bytes, and the bytes after it.
-use Rattle.std.specs.Prelude.{ℕ, cond, List, [], ◌∷◌, length, take, drop, Ok, Err, Result, ◌==◌, nat_lt}
+use Rattle.std.specs.Prelude.{◌≡◌, ℕ, cond, List, [], ◌∷◌, length, take, drop, Ok, Err, Result, ◌==◌, nat_lt}
 use Rattle.seven_bit.specs.declared.fault.NumberFault.TheVariants.{Malformed, Cut as NumberCut}
 use Rattle.seven_bit.specs.Numbers.{Read, number_at}
 use Rattle.protocol.specs.declared.call.Name.{Name}
@@ -8,6 +8,8 @@ use Rattle.protocol.specs.declared.call.Call.{Call}
 use Rattle.protocol.specs.declared.call.Call.TheVariants.{Tick, Take, Ask}
 use Rattle.records.specs.declared.defect.Defect.{Defect}
 use Rattle.records.specs.declared.defect.Defect.TheVariants.{Unknown, Wrong, Cut}
+use Rattle.records.specs.declared.kind.Kind.{Kind}
+use Rattle.records.specs.declared.kind.Kind.TheVariants as kind_is
 use Rattle.records.specs.declared.record.Record.{Record}
 use Rattle.records.specs.declared.record.Record.TheVariants as record_of
 
@@ -38,67 +40,124 @@ label_length (call c) = 0
 label_length (collect h mode) = 0
 label_length marks = 0
 
--- a record, and the bytes after it
-abbrev pub Got : Type 0
-Got = Result (Item × List ℕ) Defect
+-- ---- reading
+
+-- a thing at the front of some bytes with the bytes after it, or what is wrong with the bytes
+abbrev pub Front : Type 0 → Type 0
+Front A = Result (A × List ℕ) Defect
+
+-- a way to read a thing at the front of some bytes
+abbrev pub Reading : Type 0 → Type 0
+Reading A = List ℕ → Front A
+
+-- what comes after a thing that is read
+abbrev pub then : {A B : Type 0} → Front A → (A → Reading B) → Front B
+then (Ok p) f = f p.0 p.1
+then (Err e) f = Err e
+
+infixl 10 ◌>>=◌
+-- one thing is read, and then another, which may depend on it
+abbrev pub ◌>>=◌ : {A B : Type 0} → Reading A → (A → Reading B) → Reading B
+(r >>= f) xs = then (r xs) f
+
+-- nothing more is read
+abbrev pub nothing_more : {A : Type 0} → A → Reading A
+nothing_more a xs = Ok (a, xs)
+
+-- A call of the code reads what stands at the front of the bytes before, and leaves the bytes after; stands_for gives the definition's thing for the code's.
+abbrev pub Gives : {A B : Type 0} → Reading B → (A → B) → List ℕ → List ℕ → Result A Defect → Type 0
+Gives reading stands_for before after (Ok a) = reading before ≡ Ok (stands_for a, after)
+Gives reading stands_for before after (Err e) = reading before ≡ Err e
 
 -- ---- numbers and names
 
 -- a malformed number is told by how many bytes there are from its first one on
-abbrev pub in_record : ℕ → Read → Result (ℕ × List ℕ) Defect
+abbrev pub in_record : ℕ → Read → Front ℕ
 in_record n (Ok p) = Ok p
 in_record n (Err Malformed) = Err (Wrong n)
 in_record n (Err NumberCut) = Err Cut
 
-abbrev pub numbered : List ℕ → Result (ℕ × List ℕ) Defect
+abbrev pub numbered : Reading ℕ
 numbered xs = in_record (length xs) (number_at xs)
 
--- what comes after a number
-abbrev pub then : {A : Type 0} → Result (ℕ × List ℕ) Defect → (ℕ → List ℕ → Result (A × List ℕ) Defect) → Result (A × List ℕ) Defect
-then (Ok p) f = f p.0 p.1
-then (Err e) f = Err e
+abbrev pub named : Reading Name
+named = do
+  lane ← numbered
+  serial ← numbered
+  nothing_more (record { lane = lane; serial = serial })
 
-abbrev pub named : List ℕ → Result (Name × List ℕ) Defect
-named xs = then (numbered xs) (λ lane ys. then (numbered ys) (λ serial zs. Ok (record { lane = lane; serial = serial }, zs)))
+-- a label has a length, and then that many bytes
+abbrev pub so_many : ℕ → Reading (List ℕ)
+so_many n xs = cond (nat_lt (length xs) n) (Err Cut) (Ok (take n xs, drop n xs))
 
-abbrev pub then_named : Result (Name × List ℕ) Defect → (Name → List ℕ → Got) → Got
-then_named (Ok p) f = f p.0 p.1
-then_named (Err e) f = Err e
+abbrev pub labelled : Reading (List ℕ)
+labelled = numbered >>= so_many
 
--- ---- what follows the first byte
+-- ---- records
 
--- a note has a length, and then that many bytes
-abbrev pub labelled : ℕ → List ℕ → Got
-labelled n ys = cond (nat_lt (length ys) n) (Err Cut) (Ok (note (take n ys), drop n ys))
+-- the kind of a record by its first byte
+abbrev pub kind_of : ℕ → Result Kind Defect
+kind_of b =
+    cond (b == 0) (Ok kind_is.Note)
+    (cond (b == 1) (Ok kind_is.Tick)
+    (cond (b == 2) (Ok kind_is.Take)
+    (cond (b == 3) (Ok kind_is.Load)
+    (cond (b == 4) (Ok kind_is.Load32)
+    (cond (b == 5) (Ok kind_is.Step)
+    (cond (b == 6) (Ok kind_is.Look)
+    (cond (b == 7) (Ok kind_is.Collect)
+    (cond (b == 8) (Ok kind_is.Give)
+    (cond (b == 9) (Ok kind_is.Marks) (Err Unknown))))))))))
 
-abbrev pub note_at : List ℕ → Got
-note_at xs = then (numbered xs) labelled
+abbrev pub kind_then : Result Kind Defect → Reading Kind
+kind_then (Ok k) xs = Ok (k, xs)
+kind_then (Err e) xs = Err e
 
-abbrev pub take_at : List ℕ → Got
-take_at xs = then (numbered xs) (λ lane ys. then (numbered ys) (λ ticks zs. Ok (call (Take lane ticks), zs)))
+abbrev pub kind_at : Reading Kind
+kind_at [] = Err Cut
+kind_at (b ∷ xs) = kind_then (kind_of b) xs
 
-abbrev pub load_at : Name → List ℕ → Got
-load_at h xs = then (numbered xs) (λ K ys. then (numbered ys) (λ Q zs. then (numbered zs) (λ x ws. Ok (call (Ask h (Load K Q x)), ws))))
+-- what follows the first byte
+abbrev pub body_at : Kind → Reading Item
+body_at kind_is.Note = do
+  label ← labelled
+  nothing_more (note label)
+body_at kind_is.Tick = do
+  time ← numbered
+  nothing_more (call (Tick time))
+body_at kind_is.Take = do
+  lane ← numbered
+  ticks ← numbered
+  nothing_more (call (Take lane ticks))
+body_at kind_is.Load = do
+  h ← named
+  K ← numbered
+  Q ← numbered
+  x ← numbered
+  nothing_more (call (Ask h (Load K Q x)))
+body_at kind_is.Load32 = do
+  h ← named
+  v ← numbered
+  nothing_more (call (Ask h (Load32 v)))
+body_at kind_is.Step = do
+  h ← named
+  n ← numbered
+  nothing_more (call (Ask h (Step n)))
+body_at kind_is.Look = do
+  h ← named
+  nothing_more (call (Ask h Look))
+body_at kind_is.Collect = do
+  h ← named
+  mode ← numbered
+  nothing_more (collect h mode)
+body_at kind_is.Give = do
+  h ← named
+  nothing_more (call (Ask h Give))
+body_at kind_is.Marks = nothing_more marks
 
--- 3 load, 4 load32, 5 step, 6 look, 7 collect, 8 give
-abbrev pub request_at : ℕ → Name → List ℕ → Got
-request_at kind h xs =
-    cond (kind == 3) (load_at h xs)
-    (cond (kind == 4) (then (numbered xs) (λ v ys. Ok (call (Ask h (Load32 v)), ys)))
-    (cond (kind == 5) (then (numbered xs) (λ n ys. Ok (call (Ask h (Step n)), ys)))
-    (cond (kind == 6) (Ok (call (Ask h Look), xs))
-    (cond (kind == 7) (then (numbered xs) (λ mode ys. Ok (collect h mode, ys))) (Ok (call (Ask h Give), xs))))))
-
--- 0 note, 1 tick, 2 take, 9 marks raised; the others name a hold first
-abbrev pub body_at : ℕ → List ℕ → Got
-body_at kind xs =
-    cond (nat_lt 9 kind) (Err Unknown)
-    (cond (kind == 0) (note_at xs)
-    (cond (kind == 1) (then (numbered xs) (λ t ys. Ok (call (Tick t), ys)))
-    (cond (kind == 2) (take_at xs)
-    (cond (kind == 9) (Ok (marks, xs)) (then_named (named xs) (request_at kind))))))
+abbrev pub Got : Type 0
+Got = Front Item
 
 -- the record at the front of the bytes, with its first byte
-abbrev pub record_at : List ℕ → Got
-record_at [] = Err Cut
-record_at (kind ∷ xs) = body_at kind xs
+abbrev pub record_at : Reading Item
+record_at = kind_at >>= body_at

@@ -13,16 +13,16 @@ both : (v w : ℕ) (ys zs : List ℕ) → ◌≡◌ {A = Read} (Ok (v, ys)) (Ok 
 both v w ys zs e = let p : ◌≡◌ {A = ℕ × List ℕ} (v, ys) (w, zs) = cc in (ap (λ (q : ℕ × List ℕ). q.0) p, ap (λ (q : ℕ × List ℕ). q.1) p)
 
 -- the numbers of at most k + 1 groups lie below this
-abbrev bound : ℕ → ℕ
+abbrev pub bound : ℕ → ℕ
 bound zero = 128
 bound (suc k) = 128 * bound k
 
-single : (k b : ℕ) → b < 128 → groups k b ≡ b ∷ []
+pub single : (k b : ℕ) → b < 128 → groups k b ≡ b ∷ []
 single zero b h = refl
 single (suc k) b h = rw (lt-ltb b 128 h)
 
 -- the groups of a number that has more than one
-more : (k v : ℕ) → 128 ≤ v → groups (suc k) v ≡ (128 + v % 128) ∷ groups k (v / 128)
+pub more : (k v : ℕ) → 128 ≤ v → groups (suc k) v ≡ (128 + v % 128) ∷ groups k (v / 128)
 more k v h = rw (le-ltb v 128 h)
 
 -- one group more is read

@@ -1,5 +1,5 @@
 -- Numbers below 2^32 in groups of seven bits, lowest first, with the high bit set on all but the last.
-use Rattle.std.specs.Prelude.{◌≡◌, ℕ, zero, suc, ◌+◌, ◌-◌, ◌*◌, ◌/◌, ◌%◌, ◌^◌, ◌<◌, cond, List, [], ◌∷◌, ◌++◌, Ok, Err, Result, ◌==◌, nat_lt, slice_index}
+use Rattle.std.specs.Prelude.{◌≡◌, ℕ, zero, suc, ◌+◌, ◌-◌, ◌*◌, ◌/◌, ◌%◌, ◌^◌, ◌<◌, cond, List, [], ◌∷◌, ◌++◌, Ok, Err, Result, ◌==◌, nat_lt, slice_index, codes}
 use Rattle.seven_bit.specs.declared.fault.NumberFault.{NumberFault}
 use Rattle.seven_bit.specs.declared.fault.NumberFault.TheVariants.{Malformed, Cut}
 
@@ -7,6 +7,11 @@ use Rattle.seven_bit.specs.declared.fault.NumberFault.TheVariants.{Malformed, Cu
 abbrev pub fault_number : NumberFault → ℕ
 fault_number Malformed = 15
 fault_number Cut = 16
+
+-- what each fault says in words
+abbrev pub fault_words : NumberFault → List ℕ
+fault_words Malformed = codes "a number is not in its shortest form, or is 2^32 and more"
+fault_words Cut = codes "the input ends in a record"
 
 -- ---- writing
 

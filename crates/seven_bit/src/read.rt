@@ -5,6 +5,7 @@ use crate::fault::NumberFault;
 use crate::split::first_and_rest;
 
 /// Reads the number at the front of the bytes, and gives it with the bytes after it.
+#[tactic(auto, using(crate::proofs::Shortest::shortest_read))]
 pub fn read(bytes: &[u8]) -> Result<(u32, &[u8]), NumberFault>
     ensures is { elim result [ Ok p ↦ number_at bytes.now ≡ Ok (p.0, p.1.now) | Err e ↦ number_at bytes.now ≡ Err e ] }
     ensures within { elim result [ Ok p ↦ length p.1.now ≤ length bytes.now | Err e ↦ Unit {0} ] }
@@ -18,25 +19,16 @@ fn groups(bytes: &[u8], left: u8) -> Result<(u32, &[u8]), NumberFault>
     ensures is { elim result [ Ok p ↦ number_of left bytes.now ≡ Ok (p.0, p.1.now) | Err e ↦ number_of left bytes.now ≡ Err e ] }
     ensures within { elim result [ Ok p ↦ length p.1.now ≤ length bytes.now | Err e ↦ Unit {0} ] }
 {
-    let Some((group, rest)) = first_and_rest(bytes) else {
-        return Err(NumberFault::Cut);
-    };
+    let (group, rest) = first_and_rest(bytes).ok_or(NumberFault::Cut)?;
     if group < 128 {
-        return Ok((group as u32, rest));
+        return Ok((u32::from(group), rest));
     }
     if left == 0 {
         return Err(NumberFault::Malformed);
     }
-    match groups(rest, left - 1) {
-        Ok((high, after)) => {
-            if high == 0 {
-                return Err(NumberFault::Malformed);
-            }
-            if high < 1 << 25 {
-                return Ok(((group - 128) as u32 + 128 * high, after));
-            }
-            Err(NumberFault::Malformed)
-        }
-        Err(fault) => Err(fault),
+    let (high, after) = groups(rest, left - 1)?;
+    if high == 0 || high >= 1 << 25 {
+        return Err(NumberFault::Malformed);
     }
+    Ok((u32::from(group - 128) + 128 * high, after))
 }

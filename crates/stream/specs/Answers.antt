@@ -1,18 +1,10 @@
 -- Answers as bytes.
-use Rattle.std.specs.Prelude.{◌≡◌, ℕ, ◌+◌, List, [], ◌∷◌, ◌++◌, length, take, drop}
+use Rattle.std.specs.Prelude.{◌≡◌, ℕ, ◌+◌, List, ◌++◌, length, take, drop, flat_map}
 use Rattle.seven_bit.specs.Numbers.{encoded}
-use Rattle.stream.specs.declared.values.Values.{Values}
-use Rattle.stream.specs.declared.values.Values.TheVariants.{One, Two, Three}
 
 -- the bytes of some numbers
 abbrev pub bytes : List ℕ → List ℕ
-bytes [] = []
-bytes (v ∷ vs) = encoded v ++ bytes vs
-
-abbrev pub numbers_of : Values → List ℕ
-numbers_of (One a) = a ∷ []
-numbers_of (Two a b) = a ∷ b ∷ []
-numbers_of (Three a b c) = a ∷ b ∷ c ∷ []
+bytes vs = flat_map encoded vs
 
 -- Some bytes are written at a place, from which the buffer goes on as it was.
 pub record Writes (at : ℕ) (before : List ℕ) (next : ℕ) (after : List ℕ) (bs : List ℕ) : Type 0 where

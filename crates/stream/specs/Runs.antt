@@ -9,8 +9,8 @@ use Rattle.records.specs.declared.fault.Fault.TheVariants.{NoRoom, TooLong}
 use Rattle.records.specs.declared.fault.Placed.{Placed}
 use Rattle.records.specs.Records.{Got, record_at}
 use Rattle.records.specs.Reading.{placed}
-use Rattle.stream.specs.declared.turn.Advance.{Advance}
-use Rattle.stream.specs.declared.turn.Advance.TheVariants.{GoesOn, Ends}
+use Rattle.std.specs.declared.ops.ControlFlow.{ControlFlow}
+use Rattle.std.specs.declared.ops.ControlFlow.TheVariants.{Continue, Break}
 use Rattle.stream.specs.declared.run.Report.{Report}
 use Rattle.stream.specs.Answers.{bytes, Writes}
 use Rattle.stream.specs.Entries.{Entry, numbers, written, bank_then, control_then, entry, plays}
@@ -49,9 +49,9 @@ pub record Ended (m : Make) (input : List ℕ) (p at : ℕ) (out : List ℕ) (ne
   pub bank_is : b' ≡ b
   pub control_is : c' ≡ c
 
-abbrev pub Turned : Make → List ℕ → ℕ → ℕ → ℕ → List ℕ → ℕ → List ℕ → Bank → Bank → Control → Control → Advance → Type 0
-Turned m input p q at out next out' b b' c c' GoesOn = RunGoesOn m input p q at out next out' b b' c c'
-Turned m input p q at out next out' b b' c c' (Ends stop) = Ended m input p at out next out' b b' c c' stop
+abbrev pub Turned : Make → List ℕ → ℕ → ℕ → ℕ → List ℕ → ℕ → List ℕ → Bank → Bank → Control → Control → ControlFlow (Option Placed) (Unit {0}) → Type 0
+Turned m input p q at out next out' b b' c c' (Continue u) = RunGoesOn m input p q at out next out' b b' c c'
+Turned m input p q at out next out' b b' c c' (Break stop) = Ended m input p at out next out' b b' c c' stop
 
 -- ---- all records
 

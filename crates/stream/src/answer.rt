@@ -7,10 +7,10 @@ ghost use Rattle.records.specs.Faults as faults;
 ghost use Rattle.records.specs.Records.{item, label_length};
 ghost use Rattle.lanes.specs.Seen.{seen};
 ghost use Rattle.lanes.specs.Replies.{FewShown};
-ghost use Rattle.stream.specs.Answers.{bytes, numbers_of};
+ghost use Rattle.stream.specs.Answers.{bytes};
 ghost use Rattle.stream.specs.Entries.{entry, numbers, reply_numbers, heard, bank_then, control_then};
 
-use crate::values::Values;
+use crate::values::{Values, values};
 use bank::bank::Bank;
 use control::control::Control;
 use number_form::NumberForm;
@@ -29,15 +29,15 @@ pub(crate) fn answer<S: Selector, F: NumberForm>(
 ) -> Values
     requires place { place < 2 ^ 21 }
     requires label { label_length (item asked) < 2 ^ 21 }
-    ensures says { numbers_of result ≡ numbers (entry (make (S.Selector.model bank.old.selector) (F.NumberForm.model bank.old.form)) (seen bank.old.lanes) control.old place (item asked.entry)) }
-    ensures short { length (bytes (numbers_of result)) ≤ 8 }
+    ensures says { result.items ≡ numbers (entry (make (S.Selector.model bank.old.selector) (F.NumberForm.model bank.old.form)) (seen bank.old.lanes) control.old place (item asked.entry)) }
+    ensures short { length (bytes result.items) ≤ 8 }
     ensures bank { seen bank.new.lanes ≡ bank_then (make (S.Selector.model bank.old.selector) (F.NumberForm.model bank.old.form)) (seen bank.old.lanes) (entry (make (S.Selector.model bank.old.selector) (F.NumberForm.model bank.old.form)) (seen bank.old.lanes) control.old place (item asked.entry)) }
     ensures control { control.new ≡ control_then control.old (entry (make (S.Selector.model bank.old.selector) (F.NumberForm.model bank.old.form)) (seen bank.old.lanes) control.old place (item asked.entry)) }
     ensures selector { bank.new.selector ≡ bank.old.selector }
     ensures form { bank.new.form ≡ bank.old.form }
 {
     match asked {
-        Record::Note(label) => Values::Two(0, label.len() as u32),
+        Record::Note(label) => values(&[0, label.len() as u32]),
         Record::Tick { time } => told(bank.answer(Call::Tick { time }), place),
         Record::Take { lane, ticks } => told(bank.answer(Call::Take { lane, ticks }), place),
         Record::Load { name, k, q, x } => {
@@ -51,7 +51,7 @@ pub(crate) fn answer<S: Selector, F: NumberForm>(
             Err(refusal) => refused(Fault::Mode(refusal), place),
         },
         Record::Give { name } => told(ask(bank, name, Request::Give), place),
-        Record::Marks => Values::Two(0, control.marks().number()),
+        Record::Marks => values(&[0, control.marks().number()]),
     }
 }
 
@@ -94,24 +94,24 @@ fn collect<S: Selector, F: NumberForm>(
 fn told(reply: Reply, place: u32) -> Values
     requires few { FewShown reply }
     requires place { place < 2 ^ 21 }
-    ensures says { numbers_of result ≡ reply_numbers place reply }
-    ensures short { length (bytes (numbers_of result)) ≤ 8 }
+    ensures says { result.items ≡ reply_numbers place reply }
+    ensures short { length (bytes result.items) ≤ 8 }
 {
     match reply {
         Reply::Refused(refusal) => refused(Fault::Bank(refusal), place),
-        Reply::Done => Values::One(0),
-        Reply::Took { serial } => Values::Two(0, serial),
-        Reply::Stepped { digits } => Values::Two(0, digits),
-        Reply::Shown { made, s } => Values::Three(0, made, s),
-        Reply::Told(answer) => Values::Three(0, answer.word, answer.marks.number()),
+        Reply::Done => values(&[0]),
+        Reply::Took { serial } => values(&[0, serial]),
+        Reply::Stepped { digits } => values(&[0, digits]),
+        Reply::Shown { made, s } => values(&[0, made, s]),
+        Reply::Told(answer) => values(&[0, answer.word, answer.marks.number()]),
     }
 }
 
 /// Gives the answer of a fault with a place.
 pub(crate) fn refused(fault: Fault, place: u32) -> Values
     requires { place < 2 ^ 21 }
-    ensures says { numbers_of result ≡ faults.number fault ∷ place ∷ [] }
-    ensures short { length (bytes (numbers_of result)) ≤ 8 }
+    ensures says { result.items ≡ faults.number fault ∷ place ∷ [] }
+    ensures short { length (bytes result.items) ≤ 8 }
 {
-    Values::Two(fault.number(), place)
+    values(&[fault.number(), place])
 }

@@ -3,7 +3,7 @@ ghost use Rattle.protocol.specs.Operands.{make};
 ghost use Rattle.lanes.specs.Seen.{seen};
 ghost use Rattle.stream.specs.Runs.{Runs, Ran};
 
-use crate::turn::{Advance, turn};
+use crate::turn::turn;
 use crate::writer::Writer;
 use bank::bank::Bank;
 use control::control::Control;
@@ -11,6 +11,7 @@ use number_form::NumberForm;
 use records::fault::{Fault, Placed};
 use records::reader::Reader;
 use selection::Selector;
+use std::ops::ControlFlow;
 
 /// What a run came to: how many bytes it wrote, and the fault that ended it before the input did, with its place.
 #[derive(Clone, Copy, Drop)]
@@ -40,6 +41,7 @@ pub fn run<S: Selector, F: NumberForm>(
 }
 
 /// Works off the records of an input that is not too long.
+#[tactic(auto, using(crate::proofs::Coursing::start, crate::proofs::Coursing::again))]
 fn work_off<S: Selector, F: NumberForm>(
     bank: &mut Bank<S, F>,
     control: &mut Control,
@@ -54,14 +56,11 @@ fn work_off<S: Selector, F: NumberForm>(
     let mut reader = Reader::new(input);
     let mut writer = Writer::new(output);
     loop {
-        match turn(bank, control, &mut reader, &mut writer) {
-            Advance::GoesOn => {}
-            Advance::Ends(stop) => {
-                return Report {
-                    written: writer.used(),
-                    stop,
-                };
-            }
+        if let ControlFlow::Break(stop) = turn(bank, control, &mut reader, &mut writer) {
+            return Report {
+                written: writer.used(),
+                stop,
+            };
         }
     }
 }

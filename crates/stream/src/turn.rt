@@ -11,21 +11,16 @@ use number_form::NumberForm;
 use records::fault::{Fault, Placed};
 use records::reader::Reader;
 use selection::Selector;
+use std::ops::ControlFlow;
 
-/// Whether a run goes on after a record, or ends, and by which fault.
-#[derive(Clone, Copy, Drop)]
-pub(crate) enum Advance {
-    GoesOn,
-    Ends(Option<Placed>),
-}
-
-/// Works off the next record.
+/// Works off the next record, and tells whether the run goes on after it, or ends, and by which fault.
+#[tactic(auto, using(crate::proofs::Turning::by_fault, crate::proofs::Turning::some_left))]
 pub(crate) fn turn<S: Selector, F: NumberForm>(
     bank: &mut Bank<S, F>,
     control: &mut Control,
     reader: &mut Reader<'_>,
     writer: &mut Writer<'_>,
-) -> Advance
+) -> ControlFlow<Option<Placed>>
     requires { length reader.old.input.now ≤ 32768 }
     ensures input { reader.new.input.now ≡ reader.old.input.now }
     ensures output { writer.new.out.ghost_name ≡ writer.old.out.ghost_name }
@@ -34,27 +29,25 @@ pub(crate) fn turn<S: Selector, F: NumberForm>(
     ensures form { bank.new.form ≡ bank.old.form }
 {
     if reader.is_at_end() {
-        return Advance::Ends(None);
+        return ControlFlow::Break(None);
     }
     let place = reader.place();
     if writer.is_full() {
-        return Advance::Ends(Some(Placed {
+        return ControlFlow::Break(Some(Placed {
             fault: Fault::NoRoom,
             place,
         }));
     }
     match reader.next() {
-        Ok(found) => match found {
-            Some(found) => {
-                let values = answer(bank, control, found.place as u32, found.record);
-                writer.values(values);
-                Advance::GoesOn
-            }
-            None => Advance::Ends(None),
-        },
+        Ok(Some(found)) => {
+            let values = answer(bank, control, found.place as u32, found.record);
+            writer.values(&values);
+            ControlFlow::Continue(())
+        }
+        Ok(None) => ControlFlow::Break(None),
         Err(placed) => {
-            writer.values(refused(placed.fault, placed.place as u32));
-            Advance::Ends(Some(placed))
+            writer.values(&refused(placed.fault, placed.place as u32));
+            ControlFlow::Break(Some(placed))
         }
     }
 }

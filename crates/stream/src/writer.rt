@@ -1,8 +1,7 @@
 ghost use Rattle.std.specs.Prelude.{◌≡◌, ◌+◌, ◌-◌, ◌≤◌, length, nat_lt};
 ghost use Rattle.seven_bit.specs.Numbers.{encoded};
-ghost use Rattle.stream.specs.Answers.{bytes, numbers_of, Writes};
+ghost use Rattle.stream.specs.Answers.{bytes, Writes};
 
-use crate::values::Values;
 use seven_bit::encode::encode;
 
 /// So many bytes an answer may have.
@@ -39,23 +38,15 @@ impl<'a> Writer<'a> {
         self.at
     }
 
-    /// Writes an answer.
-    pub(crate) fn values(&mut self, values: Values)
-        requires { self.old.at + length (bytes (numbers_of values)) ≤ length self.old.out.now }
+    /// Writes the numbers of an answer.
+    #[tactic(auto, using(crate::proofs::Written::more_fits))]
+    pub(crate) fn values(&mut self, values: &[u32])
+        requires { self.old.at + length (bytes values.now) ≤ length self.old.out.now }
         ensures same { self.new.out.ghost_name ≡ self.old.out.ghost_name }
-        ensures writes { Writes self.old.at self.old.out.now self.new.at self.new.out.now (bytes (numbers_of values)) }
+        ensures writes { Writes self.old.at self.old.out.now self.new.at self.new.out.now (bytes values.now) }
     {
-        match values {
-            Values::One(first) => self.number(first),
-            Values::Two(first, second) => {
-                self.number(first);
-                self.number(second);
-            }
-            Values::Three(first, second, third) => {
-                self.number(first);
-                self.number(second);
-                self.number(third);
-            }
+        for value in values {
+            self.number(*value);
         }
     }
 
@@ -65,9 +56,8 @@ impl<'a> Writer<'a> {
         ensures same { self.new.out.ghost_name ≡ self.old.out.ghost_name }
         ensures writes { Writes self.old.at self.old.out.now self.new.at self.new.out.now (encoded number) }
     {
-        let groups = encode(number);
         let at = self.at;
-        self.at = put(self.out, at, &groups.bytes[..groups.length]);
+        self.at = put(self.out, at, &encode(number));
     }
 }
 
