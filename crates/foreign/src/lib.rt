@@ -8,6 +8,7 @@ pub mod middle_start;
 mod tests {
     use crate::dual_rail::DualRail;
     use crate::middle_start::MiddleStart;
+    use recurrence::make::Make;
     use recurrence::work::work;
     use selection::operand::Operand;
     use std::test::Fail;
@@ -17,7 +18,11 @@ mod tests {
         let Ok(operand) = Operand::new(4, 4, 8) else {
             return Err(Fail::new("8 is an operand of 4 bits"));
         };
-        assert_eq!(rt; work(&MiddleStart, &DualRail, operand).f, 22);
+        let make = Make {
+            selector: MiddleStart,
+            form: DualRail,
+        };
+        assert_eq!(rt; work(&make, operand).f, 22);
         Ok(())
     }
 }

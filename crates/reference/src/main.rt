@@ -3,9 +3,11 @@
 
 mod makes;
 
-use makes::{six, six_singles};
+use exports::task::SingleTask;
+use makes::six;
 use number_form::plain::Plain;
 use recurrence::job::Job;
+use recurrence::make::Make;
 use reference_rows::{Rows, reference_rows};
 use selection::Selector;
 use selection::operand::Operand;
@@ -17,17 +19,25 @@ use std::io;
 fn main(rt: HostRuntime) -> io::Result<()> {
     established(&rt)?;
     println!(rt; "Refusals and sizes")?;
-    for job in SIZES {
-        run(&rt, job.0, job.1, job.2)?;
+    for (k, q, x) in SIZES {
+        run(&rt, k, q, x)?;
     }
     println!(rt; "Digits over plain numbers, K = 4, Q = 4")?;
+    let radix_2 = Make {
+        selector: Radix2,
+        form: Plain,
+    };
+    let radix_4 = Make {
+        selector: Radix4,
+        form: Plain,
+    };
     for x in [8, 9, 10] {
-        digits(&rt, &Radix2, "radix 2", x)?;
-        digits(&rt, &Radix4, "radix 4", x)?;
+        digits(&rt, &radix_2, "radix 2", x)?;
+        digits(&rt, &radix_4, "radix 4", x)?;
     }
     println!(rt; "Further jobs by all six makes")?;
-    for job in FURTHER {
-        run(&rt, job.0, job.1, job.2)?;
+    for (k, q, x) in FURTHER {
+        run(&rt, k, q, x)?;
     }
     every_small_operand(&rt)?;
     println!(rt; "Singles by all six makes: nearest, toward zero, up, down, and the marks")?;
@@ -141,7 +151,7 @@ fn run(rt: &HostRuntime, k: u32, q: u32, x: u32) -> io::Result<()> {
             let number = refusal.number();
             println!(rt; "refused by {number}")
         }
-        Ok(operand) => match six(operand) {
+        Ok(operand) => match six(&operand) {
             None => println!(rt; "the makes differ"),
             Some(outcome) => {
                 let f = outcome.f;
@@ -153,14 +163,19 @@ fn run(rt: &HostRuntime, k: u32, q: u32, x: u32) -> io::Result<()> {
 }
 
 /// Prints the digits of a job and the partial result that they end at.
-fn digits<S: Selector>(rt: &HostRuntime, selector: &S, name: &str, x: u32) -> io::Result<()> {
+fn digits<S: Selector>(
+    rt: &HostRuntime,
+    make: &Make<S, Plain>,
+    name: &str,
+    x: u32,
+) -> io::Result<()> {
     let Ok(operand) = Operand::new(4, 4, x) else {
         return Ok(());
     };
-    let mut job = Job::begin(selector, &Plain, operand);
+    let mut job = Job::begin(make, operand);
     print!(rt; "{name}  x {x:2}:")?;
-    for _ in 0..4 {
-        if let Some(choice) = job.turn(selector, &Plain) {
+    for _ in 0..job.left(&make.selector) {
+        if let Some(choice) = job.turn(make) {
             let digit = choice.digit;
             print!(rt; " {digit}")?;
         }
@@ -176,12 +191,12 @@ fn digits<S: Selector>(rt: &HostRuntime, selector: &S, name: &str, x: u32) -> io
 fn every_small_operand(rt: &HostRuntime) -> io::Result<()> {
     let mut jobs = 0u32;
     let mut differences = 0u32;
-    for k in 4..11u32 {
-        for half in 1..5u32 {
-            for x in 0..1025 {
-                if let Ok(operand) = Operand::new(k, 2 * half, x) {
+    for k in 4..=10 {
+        for q in (2..=8).step_by(2) {
+            for x in 0..=1024 {
+                if let Ok(operand) = Operand::new(k, q, x) {
                     jobs = jobs.saturating_add(1);
-                    if six(operand).is_none() {
+                    if six(&operand).is_none() {
                         differences = differences.saturating_add(1);
                     }
                 }
@@ -205,7 +220,7 @@ fn run_single(rt: &HostRuntime, word: u32) -> io::Result<()> {
 
 /// Prints what a single comes to on all makes, with the number of its marks.
 fn print_single(rt: &HostRuntime, word: u32, mode: Mode) -> io::Result<()> {
-    match six_singles(word, mode) {
+    match six(&SingleTask { word, mode }) {
         None => print!(rt; "the makes differ"),
         Some(answer) => {
             let result = answer.word;

@@ -7,7 +7,7 @@ ghost use Rattle.reference_rows.specs.References.{reference_rows, Established};
 use single::mode::Mode;
 
 /// A fixed-point reference job of width 4 and 4 places: the operand, its result, and whether it is exact.
-#[derive(Clone, Copy, Drop)]
+#[derive(Clone, Copy, Drop, PartialEq, Eq, Debug)]
 pub struct FixedRow {
     pub x: u32,
     pub f: u32,
@@ -15,7 +15,7 @@ pub struct FixedRow {
 }
 
 /// A reference job on a single: the mode, the operand's word, the result's word, and whether it is exact.
-#[derive(Clone, Copy, Drop)]
+#[derive(Clone, Copy, Drop, PartialEq, Eq, Debug)]
 pub struct SingleRow {
     pub mode: Mode,
     pub operand: u32,
@@ -24,7 +24,7 @@ pub struct SingleRow {
 }
 
 /// The reference jobs.
-#[derive(Clone, Copy, Drop)]
+#[derive(Clone, Copy, Drop, PartialEq, Eq, Debug)]
 pub struct Rows {
     pub fixed: [FixedRow; 5],
     pub singles: [SingleRow; 5],
@@ -53,12 +53,14 @@ pub fn reference_rows() -> Rows
     }
 }
 
+/// Makes a row. A literal would take five lines of the table, and this takes one.
 fn row(x: u32, f: u32, exact: bool) -> FixedRow
     ensures { result ≡ record { x = x; f = f; exact = exact } }
 {
     FixedRow { x, f, exact }
 }
 
+/// Makes a row of a single, in one line of the table as well.
 fn single_row(mode: Mode, operand: u32, res: u32, exact: bool) -> SingleRow
     ensures { result ≡ record { mode = mode; operand = operand; result = res; exact = exact } }
 {
