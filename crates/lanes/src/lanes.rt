@@ -1,7 +1,7 @@
 use lane_job::job::LaneJob;
 
 /// Who holds a lane: by which serial, to which deadline, and with which job.
-#[derive(Clone, Copy, Drop)]
+#[derive(Clone, Copy, Drop, PartialEq, Eq, Debug)]
 pub struct Holder {
     pub serial: u32,
     pub deadline: u32,
@@ -9,7 +9,7 @@ pub struct Holder {
 }
 
 /// A lane, free or held.
-#[derive(Clone, Copy, Drop)]
+#[derive(Clone, Copy, Drop, PartialEq, Eq, Debug)]
 pub struct Lane {
     pub(crate) holder: Option<Holder>,
 }

@@ -8,7 +8,7 @@ use single::mode::ModeRefusal;
 use std::fmt;
 
 /// What is wrong with a record or a stream.
-#[derive(Clone, Copy, Drop)]
+#[derive(Clone, Copy, Drop, PartialEq, Eq, Debug)]
 pub enum Fault {
     /// The mode of a collect.
     Mode(ModeRefusal),
@@ -84,7 +84,7 @@ impl fmt::Display for Fault {
 }
 
 /// A fault with the place that is told with it.
-#[derive(Clone, Copy, Drop)]
+#[derive(Clone, Copy, Drop, PartialEq, Eq, Debug)]
 pub struct Placed {
     pub fault: Fault,
     pub place: usize,

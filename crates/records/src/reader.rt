@@ -11,7 +11,7 @@ pub struct Reader<'a> {
 }
 
 /// A record with its place, that of its first byte.
-#[derive(Clone, Copy, Drop)]
+#[derive(Clone, Copy, Drop, PartialEq, Eq, Debug)]
 pub struct Found<'a> {
     pub place: usize,
     pub record: Record<'a>,

@@ -1,7 +1,7 @@
 use protocol::call::Name;
 
 /// A record of a stream.
-#[derive(Clone, Copy, Drop)]
+#[derive(Clone, Copy, Drop, PartialEq, Eq, Debug)]
 pub enum Record<'a> {
     /// A note with its label, which is a part of the input.
     Note(&'a [u8]),

@@ -6,6 +6,7 @@ use Rattle.single.specs.Modes.{mode_of}
 use Rattle.control.specs.declared.control.Control.{Control}
 use Rattle.protocol.specs.declared.call.Reply.{Reply}
 use Rattle.protocol.specs.declared.call.Play.{Play}
+use Rattle.protocol.specs.declared.refusal.Refusal.{Refusal}
 use Rattle.protocol.specs.Operands.{Make}
 use Rattle.protocol.specs.Bank.{Bank, answer}
 use Rattle.protocol.specs.Plays.{played, replied, StandsInHistory}
@@ -61,7 +62,7 @@ one_more m b (marked x) r h k = record { told = k.told; leaves = k.leaves }
 one_more m b (faulty f p) r h k = record { told = k.told; leaves = k.leaves }
 one_more m b (called p c a) r h k =
     record {
-      told = ap₂ (λ (x : Reply) (xs : List Play). record { call = c; reply = Some x } ∷ xs) h k.told;
+      told = ap₂ (λ (x : Result Reply Refusal) (xs : List Play). record { call = c; reply = Some x } ∷ xs) h k.told;
       leaves = k.leaves;
     }
 

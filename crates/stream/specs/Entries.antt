@@ -13,8 +13,9 @@ use Rattle.protocol.specs.declared.call.Request.TheVariants.{Load, Load32, Step,
 use Rattle.protocol.specs.declared.call.Call.{Call}
 use Rattle.protocol.specs.declared.call.Call.TheVariants.{Tick, Take, Ask}
 use Rattle.protocol.specs.declared.call.Reply.{Reply}
-use Rattle.protocol.specs.declared.call.Reply.TheVariants.{Refused, Done, Took, Stepped, Shown, Told}
+use Rattle.protocol.specs.declared.call.Reply.TheVariants.{Done, Took, Stepped, Shown, Told}
 use Rattle.protocol.specs.declared.call.Play.{Play}
+use Rattle.protocol.specs.declared.refusal.Refusal.{Refusal}
 use Rattle.protocol.specs.Operands.{Make}
 use Rattle.protocol.specs.Bank.{Bank, answer, after}
 use Rattle.records.specs.declared.fault.Fault.{Fault}
@@ -30,23 +31,29 @@ pub data Entry : Type 0 where
   noted : ℕ → Entry
   marked : Marks → Entry
   faulty : Fault → ℕ → Entry
-  called : ℕ → Call → Reply → Entry
+  called : ℕ → Call → Result Reply Refusal → Entry
 
 -- ---- answers
 
 -- 0 and its values, or the refusal's number and the record's place
-abbrev pub reply_numbers : ℕ → Reply → List ℕ
-reply_numbers place (Refused r) = faults.number (ByBank r) ∷ place ∷ []
-reply_numbers place Done = 0 ∷ []
-reply_numbers place (Took serial) = 0 ∷ serial ∷ []
-reply_numbers place (Stepped n) = 0 ∷ n ∷ []
-reply_numbers place (Shown n s) = 0 ∷ n ∷ s ∷ []
-reply_numbers place (Told a) = 0 ∷ a.word ∷ mark_sets.number a.marks ∷ []
+abbrev pub shown : Reply → List ℕ
+shown Done = 0 ∷ []
+shown (Took serial) = 0 ∷ serial ∷ []
+shown (Stepped n) = 0 ∷ n ∷ []
+shown (Shown n s) = 0 ∷ n ∷ s ∷ []
+shown (Told a) = 0 ∷ a.word ∷ mark_sets.number a.marks ∷ []
+
+abbrev pub refused : Fault → ℕ → List ℕ
+refused f place = faults.number f ∷ place ∷ []
+
+abbrev pub reply_numbers : ℕ → Result Reply Refusal → List ℕ
+reply_numbers place (Ok a) = shown a
+reply_numbers place (Err r) = refused (ByBank r) place
 
 abbrev pub numbers : Entry → List ℕ
 numbers (noted n) = 0 ∷ n ∷ []
 numbers (marked k) = 0 ∷ mark_sets.number k ∷ []
-numbers (faulty f place) = faults.number f ∷ place ∷ []
+numbers (faulty f place) = refused f place
 numbers (called place c r) = reply_numbers place r
 
 -- the bytes of the answers, one after the other
@@ -64,16 +71,16 @@ bank_then m b (faulty f place) = b
 bank_then m b (called place c r) = after m b c
 
 -- a result that is told adds its marks to the control
-abbrev pub heard : Control → Reply → Control
-heard c (Refused r) = c
-heard c Done = c
-heard c (Took serial) = c
-heard c (Stepped n) = c
-heard c (Shown n s) = c
-heard c (Told a) = raised c a.marks
+abbrev pub heard : Control → Result Reply Refusal → Control
+heard c (Err r) = c
+heard c (Ok Done) = c
+heard c (Ok (Took serial)) = c
+heard c (Ok (Stepped n)) = c
+heard c (Ok (Shown n s)) = c
+heard c (Ok (Told a)) = raised c a.marks
 
 -- only a collect changes the control
-abbrev pub hears_request : Request → Control → Reply → Control
+abbrev pub hears_request : Request → Control → Result Reply Refusal → Control
 hears_request (Load K Q x) c r = c
 hears_request (Load32 v) c r = c
 hears_request (Step n) c r = c
@@ -81,7 +88,7 @@ hears_request Look c r = c
 hears_request (Collect mode) c r = heard c r
 hears_request Give c r = c
 
-abbrev pub hears : Call → Control → Reply → Control
+abbrev pub hears : Call → Control → Result Reply Refusal → Control
 hears (Tick t) c r = c
 hears (Take lane ticks) c r = c
 hears (Ask h q) c r = hears_request q c r
@@ -91,6 +98,11 @@ control_then c (noted n) = c
 control_then c (marked k) = c
 control_then c (faulty f place) = c
 control_then c (called place k r) = hears k c r
+
+-- the numbers of a result: those of what it has, or its fault's with a place
+abbrev pub stated : {A : Type 0} → (A → List ℕ) → ℕ → Result A Fault → List ℕ
+stated of place (Ok a) = of a
+stated of place (Err f) = refused f place
 
 -- ---- what comes of a record at a place
 

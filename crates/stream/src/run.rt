@@ -14,7 +14,7 @@ use selection::Selector;
 use std::ops::ControlFlow;
 
 /// What a run came to: how many bytes it wrote, and the fault that ended it before the input did, with its place.
-#[derive(Clone, Copy, Drop)]
+#[derive(Clone, Copy, Drop, PartialEq, Eq, Debug)]
 pub struct Report {
     pub written: usize,
     pub stop: Option<Placed>,
@@ -30,9 +30,8 @@ pub fn run<S: Selector, F: NumberForm>(
     input: &[u8],
     output: &mut [u8],
 ) -> Result<Report, Fault>
-    ensures runs { Runs (make (S.Selector.model bank.old.selector) (F.NumberForm.model bank.old.form)) input.now output.old output.new (seen bank.old.lanes) (seen bank.new.lanes) control.old control.new result }
-    ensures selector { bank.new.selector ≡ bank.old.selector }
-    ensures form { bank.new.form ≡ bank.old.form }
+    ensures runs { Runs (make (S.Selector.model bank.old.make.selector) (F.NumberForm.model bank.old.make.form)) input.now output.old output.new (seen bank.old.lanes) (seen bank.new.lanes) control.old control.new result }
+    ensures make { bank.new.make ≡ bank.old.make }
 {
     if input.len() > LONGEST {
         return Err(Fault::TooLong);
@@ -49,9 +48,8 @@ fn work_off<S: Selector, F: NumberForm>(
     output: &mut [u8],
 ) -> Report
     requires { length input.now ≤ 32768 }
-    ensures ran { Ran (make (S.Selector.model bank.old.selector) (F.NumberForm.model bank.old.form)) input.now output.old output.new (seen bank.old.lanes) (seen bank.new.lanes) control.old control.new result }
-    ensures selector { bank.new.selector ≡ bank.old.selector }
-    ensures form { bank.new.form ≡ bank.old.form }
+    ensures ran { Ran (make (S.Selector.model bank.old.make.selector) (F.NumberForm.model bank.old.make.form)) input.now output.old output.new (seen bank.old.lanes) (seen bank.new.lanes) control.old control.new result }
+    ensures make { bank.new.make ≡ bank.old.make }
 {
     let mut reader = Reader::new(input);
     let mut writer = Writer::new(output);

@@ -24,9 +24,8 @@ pub(crate) fn turn<S: Selector, F: NumberForm>(
     requires { length reader.old.input.now ≤ 32768 }
     ensures input { reader.new.input.now ≡ reader.old.input.now }
     ensures output { writer.new.out.ghost_name ≡ writer.old.out.ghost_name }
-    ensures turned { Turned (make (S.Selector.model bank.old.selector) (F.NumberForm.model bank.old.form)) reader.old.input.now reader.old.at reader.new.at writer.old.at writer.old.out.now writer.new.at writer.new.out.now (seen bank.old.lanes) (seen bank.new.lanes) control.old control.new result }
-    ensures selector { bank.new.selector ≡ bank.old.selector }
-    ensures form { bank.new.form ≡ bank.old.form }
+    ensures turned { Turned (make (S.Selector.model bank.old.make.selector) (F.NumberForm.model bank.old.make.form)) reader.old.input.now reader.old.at reader.new.at writer.old.at writer.old.out.now writer.new.at writer.new.out.now (seen bank.old.lanes) (seen bank.new.lanes) control.old control.new result }
+    ensures make { bank.new.make ≡ bank.old.make }
 {
     if reader.is_at_end() {
         return ControlFlow::Break(None);
