@@ -18,6 +18,7 @@ use single::mode::Mode;
 
 impl<S: Selector, F: NumberForm> Bank<S, F> {
     /// Loads a fixed-point job, by the hold's name: the operand x of width K, to be worked to Q places.
+    // load, load32 and step find, serve and put alike; one function over a closure would save two lines of each, for a contract over `pre` and `post`
     pub fn load(&mut self, name: Name, k: u32, q: u32, x: u32) -> Result<(), Refusal>
         ensures answers { done result ≡ answer (make (S.Selector.model self.old.make.selector) (F.NumberForm.model self.old.make.form)) (seen self.old.lanes) (Ask name (Load k q x)) }
         ensures leaves { seen self.new.lanes ≡ after (make (S.Selector.model self.old.make.selector) (F.NumberForm.model self.old.make.form)) (seen self.old.lanes) (Ask name (Load k q x)) }

@@ -3,5 +3,6 @@
 
 pub mod encode;
 pub mod fault;
+pub mod groups;
 pub mod read;
 pub mod split;

@@ -24,6 +24,7 @@ pub struct Report {
 pub const LONGEST: usize = 32768;
 
 /// Works off the records of an input on a bank and a control, and writes the answers.
+// bank and control stay two references here and below: in one struct each contract would say besides which bank and control it refers to
 pub fn run<S: Selector, F: NumberForm>(
     bank: &mut Bank<S, F>,
     control: &mut Control,

@@ -40,12 +40,12 @@ pub(crate) fn turn<S: Selector, F: NumberForm>(
     match reader.next() {
         Ok(Some(found)) => {
             let values = answer(bank, control, found.place as u32, found.record);
-            writer.values(&values);
+            writer.values(values.as_slice());
             ControlFlow::Continue(())
         }
         Ok(None) => ControlFlow::Break(None),
         Err(placed) => {
-            writer.values(&refused(placed.fault, placed.place as u32));
+            writer.values(refused(placed.fault, placed.place as u32).as_slice());
             ControlFlow::Break(Some(placed))
         }
     }

@@ -1,14 +1,41 @@
-ghost use Rattle.std.specs.Prelude.{◌≡◌, ◌≤◌, length};
+ghost use Rattle.std.specs.Prelude.{◌≡◌, ℕ, ◌≤◌, List, length, take};
 
-use arrayvec::ArrayVec;
+use std::marker::Model;
 
-/// The numbers of an answer.
-pub(crate) type Values = ArrayVec<u32, 3>;
+/// The numbers of an answer, at most three. Callers see the list of them.
+// std has no list of bounded length without a heap: an array and a length, hidden here
+#[derive(Drop)]
+pub(crate) struct Values {
+    numbers: [u32; 3],
+    count: usize,
+}
 
-/// Gives an answer of these numbers.
-pub(crate) fn values(numbers: &[u32]) -> Values
-    requires { length numbers.now ≤ 3 }
-    ensures { result.items ≡ numbers.now }
-{
-    Values::try_from(numbers).unwrap()
+impl Model for Values {
+    ghost Value = { List ℕ };
+
+    ghost view = { λ v. take v.count v.numbers };
+
+    ghost invariant = { λ v. v.count ≤ 3 };
+}
+
+impl Values {
+    /// Gives an answer of these numbers.
+    pub(crate) fn of(given: &[u32]) -> Values
+        requires { length given.now ≤ 3 }
+        ensures { result ≡ given.now }
+    {
+        let mut numbers = [0; 3];
+        numbers[..given.len()].copy_from_slice(given);
+        Values {
+            numbers,
+            count: given.len(),
+        }
+    }
+
+    /// Gives the numbers as they are written.
+    pub(crate) fn as_slice(&self) -> &[u32]
+        ensures { result.now ≡ self.now }
+    {
+        &self.numbers[..self.count]
+    }
 }

@@ -57,7 +57,7 @@ impl<'a> Writer<'a> {
         ensures writes { Writes self.old.at self.old.out.now self.new.at self.new.out.now (encoded number) }
     {
         let at = self.at;
-        self.at = put(self.out, at, &encode(number));
+        self.at = put(self.out, at, encode(number).as_slice());
     }
 }
 
