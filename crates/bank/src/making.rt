@@ -17,6 +17,7 @@ use selection::Selector;
 impl<S: Selector, F: NumberForm> Bank<S, F> {
     /// Makes a bank: its clock is 0, its lanes are free and its next serial is 1. What any two holders share is promised here, since
     /// whoever has a bank has made one.
+    // selector and form come apart here alone: a caller writes `Bank::new(Radix4, CarrySave)`, and the bank makes a `Make` of them
     pub fn new(selector: S, form: F) -> Bank<S, F>
         ensures fresh { seen result.lanes ≡ new }
         ensures selector { result.make.selector ≡ selector }

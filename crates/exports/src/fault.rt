@@ -19,6 +19,7 @@ pub enum Fault {
 
 impl Fault {
     /// Gives the number by which the refusal is told to callers.
+    // no `From`: the name says which number, and `u32::from` would not
     pub fn number(self) -> u32
         ensures is { result ≡ number self }
         ensures small { result ≤ 19 }

@@ -15,9 +15,7 @@ mod tests {
 
     #[test]
     fn eight_sixteenths(rt: HostRuntime) -> Result<(), Fail> {
-        let Ok(operand) = Operand::new(4, 4, 8) else {
-            return Err(Fail::new("8 is an operand of 4 bits"));
-        };
+        let operand = Operand::new(4, 4, 8).map_err(|_| Fail::new("8 is an operand of 4 bits"))?;
         let make = Make {
             selector: MiddleStart,
             form: DualRail,

@@ -32,6 +32,7 @@ pub enum Refusal {
 
 impl Refusal {
     /// Gives the number by which the refusal is told to callers.
+    // no `From`: the name says which number, and `u32::from` would not
     pub fn number(self) -> u32
         ensures { result ≡ number self }
     {

@@ -26,6 +26,7 @@ pub enum Fault {
 
 impl Fault {
     /// Gives the number by which the fault is told to callers.
+    // no `From`: the name says which number, and `u32::from` would not
     pub fn number(self) -> u32
         ensures { result ≡ number self }
     {

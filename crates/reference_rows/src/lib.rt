@@ -11,6 +11,7 @@ use single::mode::Mode;
 pub struct FixedRow {
     pub x: u32,
     pub f: u32,
+    /// Whether f is the root itself; f is there in both cases, so no `Option` says it.
     pub exact: bool,
 }
 
@@ -20,6 +21,7 @@ pub struct SingleRow {
     pub mode: Mode,
     pub operand: u32,
     pub result: u32,
+    /// Whether the result is the root itself; there is one in both cases.
     pub exact: bool,
 }
 

@@ -127,6 +127,7 @@ fn read_fixed(alloc: Global, words: &[String]) -> Result<Task, Trouble> {
 
 /// Reads the word of a single.
 fn read_single(words: &[String], mode: Mode) -> Result<Task, Trouble> {
+    // a slice pattern: no `?` takes one word out of a slice of one
     let [word] = words else {
         return Err(Trouble::Usage);
     };
