@@ -29,15 +29,15 @@ fn play_in_each_form<S: Selector + Copy + Drop>(rt: &impl Print, selector: S) ->
     play(rt, "borrow-save", selector, BorrowSave)
 }
 
-/// Plays it on a new bank, and prints each call with its answer.
+/// Plays it on a new bank, and prints the make and each call with its answer.
 fn play<S: Selector + Drop, F: NumberForm + Drop>(
     rt: &impl Print,
-    name: &str,
+    form_name: &str,
     selector: S,
     form: F,
 ) -> io::Result<()> {
     selector.lawful();
-    println!(rt; "radix {}, {name}", 1u32 << S::B)?;
+    println!(rt; "radix {}, {form_name}", 1u32 << S::B)?;
     let mut bank = Bank::new(selector, form);
     let mut plays = slow_job();
     bank.play(&mut plays);

@@ -7,6 +7,7 @@ use std::fmt;
 pub(crate) struct InWords<T>(pub(crate) T);
 
 impl fmt::Display for InWords<Call> {
+    /// Shows a call.
     fn fmt<W: fmt::Write>(&self, f: &mut fmt::Formatter<W>) -> fmt::Result {
         match self.0 {
             Call::Tick { time } => write!(f, "tick {time}"),
@@ -21,6 +22,7 @@ impl fmt::Display for InWords<Call> {
 }
 
 impl fmt::Display for InWords<Request> {
+    /// Shows what is asked with a hold.
     fn fmt<W: fmt::Write>(&self, f: &mut fmt::Formatter<W>) -> fmt::Result {
         match self.0 {
             Request::Load { k, q, x } => write!(f, "load K {k} Q {q} x {x}"),
@@ -34,6 +36,7 @@ impl fmt::Display for InWords<Request> {
 }
 
 impl fmt::Display for InWords<Reply> {
+    /// Shows what the bank tells.
     fn fmt<W: fmt::Write>(&self, f: &mut fmt::Formatter<W>) -> fmt::Result {
         match self.0 {
             Reply::Done => write!(f, "done"),
