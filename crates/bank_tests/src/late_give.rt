@@ -1,4 +1,5 @@
 use bank::bank::Bank;
+use control::collecting::Collecting;
 use control::control::Control;
 use hold::hold::Hold;
 use number_form::NumberForm;
@@ -18,52 +19,49 @@ fn late_give<S: Selector + Drop, F: NumberForm + Drop>(
     form: F,
 ) -> Result<(), Fail> {
     let mut bank = Bank::new(selector, form);
-    let Ok(slow) = Hold::take(&mut bank, 0, 5) else {
-        return Err(Fail::new("lane 0 is free"));
-    };
-    assert!(rt; slow.load(&mut bank, 4, 4, 8).is_ok());
-    assert!(rt; slow.step(&mut bank, 2).is_ok());
-    assert!(rt; bank.tick(4).is_ok());
-    assert!(rt; slow.look(&bank).is_ok());
-    assert!(rt; bank.tick(5).is_ok());
-    let Ok(next) = Hold::take(&mut bank, 0, 10) else {
-        return Err(Fail::new("lane 0 is free again"));
-    };
-    assert!(rt; next.load(&mut bank, 4, 4, 5).is_ok());
-    assert!(rt; next.step(&mut bank, 1).is_ok());
-    let Ok(before) = next.look(&bank) else {
-        return Err(Fail::new("the next holder has a job"));
-    };
-    let Err(rejected) = slow.give(&mut bank) else {
-        return Err(Fail::new("the late give is refused"));
-    };
+    let slow = Hold::take(&mut bank, 0, 5)?;
+    slow.load(&mut bank, 4, 4, 8)?;
+    slow.step(&mut bank, 2)?;
+    bank.tick(4)?;
+    slow.look(&bank)?;
+    bank.tick(5)?;
+    let next = Hold::take(&mut bank, 0, 10)?;
+    next.load(&mut bank, 4, 4, 5)?;
+    next.step(&mut bank, 1)?;
+    let before = next.look(&bank)?;
+    let rejected = slow
+        .give(&mut bank)
+        .err()
+        .ok_or("the late give is accepted")?;
     assert_eq!(rt; rejected.refusal.number(), 9);
     assert_eq!(rt; rejected.hold.name().serial, 1);
-    let Ok(after) = next.look(&bank) else {
-        return Err(Fail::new("the next holder has its job still"));
-    };
-    assert_eq!(rt; after.0, before.0);
-    assert_eq!(rt; after.1, before.1);
-    assert!(rt; next.step(&mut bank, 9).is_ok());
+    assert_eq!(rt; next.look(&bank)?, before);
+    next.step(&mut bank, 9)?;
     let mut control = Control::new();
-    let Ok(answer) = next.collect(&mut bank, &mut control) else {
-        return Err(Fail::new("all digits are made"));
-    };
+    let answer = next
+        .collect(&mut bank, &mut control)
+        .map_err(|rejected| rejected.refusal)?;
     assert_eq!(rt; answer.word, 28);
     assert_eq!(rt; control.marks().number(), 1);
     Ok(())
 }
 
+/// The same over a selector, in each of the three forms.
+fn late_give_in_each_form<S: Selector + Copy + Drop>(
+    rt: &impl Abort,
+    selector: S,
+) -> Result<(), Fail> {
+    late_give(rt, selector, Plain)?;
+    late_give(rt, selector, CarrySave)?;
+    late_give(rt, selector, BorrowSave)
+}
+
 #[test]
 fn late_give_in_radix_2(rt: HostRuntime) -> Result<(), Fail> {
-    late_give(&rt, Radix2, Plain)?;
-    late_give(&rt, Radix2, CarrySave)?;
-    late_give(&rt, Radix2, BorrowSave)
+    late_give_in_each_form(&rt, Radix2)
 }
 
 #[test]
 fn late_give_in_radix_4(rt: HostRuntime) -> Result<(), Fail> {
-    late_give(&rt, Radix4, Plain)?;
-    late_give(&rt, Radix4, CarrySave)?;
-    late_give(&rt, Radix4, BorrowSave)
+    late_give_in_each_form(&rt, Radix4)
 }
