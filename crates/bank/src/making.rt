@@ -1,5 +1,5 @@
 ghost use Rattle.std.specs.Prelude.{◌≡◌};
-ghost use Rattle.protocol.specs.Operands.{make, Lawful};
+ghost use Rattle.protocol.specs.Operands.{make, models, Lawful};
 ghost use Rattle.protocol.specs.Bank.{new, answer, after};
 ghost use Rattle.protocol.specs.Promise.{RefusalsLeave, HoldersShare};
 ghost use Rattle.lanes.specs.Seen.{seen};
@@ -37,8 +37,8 @@ impl<S: Selector, F: NumberForm> Bank<S, F> {
     /// Makes one of the eight calls.
     pub fn answer(&mut self, call: Call) -> Result<Reply, Refusal>
         ensures few { FewShown result }
-        ensures answers { result ≡ answer (make (S.Selector.model self.old.make.selector) (F.NumberForm.model self.old.make.form)) (seen self.old.lanes) call }
-        ensures leaves { seen self.new.lanes ≡ after (make (S.Selector.model self.old.make.selector) (F.NumberForm.model self.old.make.form)) (seen self.old.lanes) call }
+        ensures answers { result ≡ answer (models S.model F.model self.old.make) (seen self.old.lanes) call }
+        ensures leaves { seen self.new.lanes ≡ after (models S.model F.model self.old.make) (seen self.old.lanes) call }
         ensures make { self.new.make ≡ self.old.make }
     {
         match call {
@@ -53,8 +53,8 @@ impl<S: Selector, F: NumberForm> Bank<S, F> {
     /// Makes one of the six calls with a hold.
     fn answer_request(&mut self, name: Name, request: Request) -> Result<Reply, Refusal>
         ensures few { FewShown result }
-        ensures answers { result ≡ answer (make (S.Selector.model self.old.make.selector) (F.NumberForm.model self.old.make.form)) (seen self.old.lanes) (Ask name request) }
-        ensures leaves { seen self.new.lanes ≡ after (make (S.Selector.model self.old.make.selector) (F.NumberForm.model self.old.make.form)) (seen self.old.lanes) (Ask name request) }
+        ensures answers { result ≡ answer (models S.model F.model self.old.make) (seen self.old.lanes) (Ask name request) }
+        ensures leaves { seen self.new.lanes ≡ after (models S.model F.model self.old.make) (seen self.old.lanes) (Ask name request) }
         ensures make { self.new.make ≡ self.old.make }
     {
         match request {

@@ -1,5 +1,5 @@
 ghost use Rattle.std.specs.Prelude.{◌≡◌};
-ghost use Rattle.protocol.specs.Operands.{make};
+ghost use Rattle.protocol.specs.Operands.{models};
 ghost use Rattle.protocol.specs.Plays.{played, replied, StandsInHistory};
 ghost use Rattle.lanes.specs.Seen.{seen};
 
@@ -11,9 +11,9 @@ use selection::Selector;
 impl<S: Selector, F: NumberForm> Bank<S, F> {
     /// Makes the calls of a list, one upon the result of another, and writes down what each is answered.
     pub fn play(&mut self, plays: &mut [Play])
-        ensures answers { plays.new ≡ replied (make (S.Selector.model self.old.make.selector) (F.NumberForm.model self.old.make.form)) (seen self.old.lanes) plays.old }
-        ensures leaves { seen self.new.lanes ≡ played (make (S.Selector.model self.old.make.selector) (F.NumberForm.model self.old.make.form)) (seen self.old.lanes) plays.old }
-        ensures history { StandsInHistory (make (S.Selector.model self.old.make.selector) (F.NumberForm.model self.old.make.form)) (seen self.old.lanes) plays.old plays.new (seen self.new.lanes) }
+        ensures answers { plays.new ≡ replied (models S.model F.model self.old.make) (seen self.old.lanes) plays.old }
+        ensures leaves { seen self.new.lanes ≡ played (models S.model F.model self.old.make) (seen self.old.lanes) plays.old }
+        ensures history { StandsInHistory (models S.model F.model self.old.make) (seen self.old.lanes) plays.old plays.new (seen self.new.lanes) }
         ensures make { self.new.make ≡ self.old.make }
     {
         for play in plays.iter_mut() {

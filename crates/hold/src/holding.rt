@@ -1,7 +1,7 @@
 ghost use Rattle.std.specs.Prelude.{◌≡◌};
 ghost use Rattle.protocol.specs.declared.call.Call.TheVariants.{Take, Ask};
 ghost use Rattle.protocol.specs.declared.call.Request.TheVariants.{Load, Load32, Step, Look, Collect, Give};
-ghost use Rattle.protocol.specs.Operands.{make};
+ghost use Rattle.protocol.specs.Operands.{models};
 ghost use Rattle.protocol.specs.Bank.{answer, after};
 ghost use Rattle.lane_job.specs.Seen.{shown};
 ghost use Rattle.lanes.specs.Seen.{seen};
@@ -24,8 +24,8 @@ impl Hold {
         lane: u32,
         ticks: u32,
     ) -> Result<Hold, Refusal>
-        ensures answers { TakenBy (make (S.Selector.model bank.old.make.selector) (F.NumberForm.model bank.old.make.form)) (seen bank.old.lanes) lane ticks result }
-        ensures leaves { seen bank.new.lanes ≡ after (make (S.Selector.model bank.old.make.selector) (F.NumberForm.model bank.old.make.form)) (seen bank.old.lanes) (Take lane ticks) }
+        ensures answers { TakenBy (models S.model F.model bank.old.make) (seen bank.old.lanes) lane ticks result }
+        ensures leaves { seen bank.new.lanes ≡ after (models S.model F.model bank.old.make) (seen bank.old.lanes) (Take lane ticks) }
         ensures make { bank.new.make ≡ bank.old.make }
     {
         let serial = bank.take(lane, ticks)?;
@@ -42,8 +42,8 @@ impl Hold {
         q: u32,
         x: u32,
     ) -> Result<(), Refusal>
-        ensures answers { done result ≡ answer (make (S.Selector.model bank.old.make.selector) (F.NumberForm.model bank.old.make.form)) (seen bank.old.lanes) (Ask self.now.numbers (Load k q x)) }
-        ensures leaves { seen bank.new.lanes ≡ after (make (S.Selector.model bank.old.make.selector) (F.NumberForm.model bank.old.make.form)) (seen bank.old.lanes) (Ask self.now.numbers (Load k q x)) }
+        ensures answers { done result ≡ answer (models S.model F.model bank.old.make) (seen bank.old.lanes) (Ask self.now.numbers (Load k q x)) }
+        ensures leaves { seen bank.new.lanes ≡ after (models S.model F.model bank.old.make) (seen bank.old.lanes) (Ask self.now.numbers (Load k q x)) }
         ensures make { bank.new.make ≡ bank.old.make }
     {
         bank.load(self.name(), k, q, x)
@@ -55,8 +55,8 @@ impl Hold {
         bank: &mut Bank<S, F>,
         word: u32,
     ) -> Result<(), Refusal>
-        ensures answers { done result ≡ answer (make (S.Selector.model bank.old.make.selector) (F.NumberForm.model bank.old.make.form)) (seen bank.old.lanes) (Ask self.now.numbers (Load32 word)) }
-        ensures leaves { seen bank.new.lanes ≡ after (make (S.Selector.model bank.old.make.selector) (F.NumberForm.model bank.old.make.form)) (seen bank.old.lanes) (Ask self.now.numbers (Load32 word)) }
+        ensures answers { done result ≡ answer (models S.model F.model bank.old.make) (seen bank.old.lanes) (Ask self.now.numbers (Load32 word)) }
+        ensures leaves { seen bank.new.lanes ≡ after (models S.model F.model bank.old.make) (seen bank.old.lanes) (Ask self.now.numbers (Load32 word)) }
         ensures make { bank.new.make ≡ bank.old.make }
     {
         bank.load32(self.name(), word)
@@ -68,8 +68,8 @@ impl Hold {
         bank: &mut Bank<S, F>,
         count: u32,
     ) -> Result<u32, Refusal>
-        ensures answers { stepped result ≡ answer (make (S.Selector.model bank.old.make.selector) (F.NumberForm.model bank.old.make.form)) (seen bank.old.lanes) (Ask self.now.numbers (Step count)) }
-        ensures leaves { seen bank.new.lanes ≡ after (make (S.Selector.model bank.old.make.selector) (F.NumberForm.model bank.old.make.form)) (seen bank.old.lanes) (Ask self.now.numbers (Step count)) }
+        ensures answers { stepped result ≡ answer (models S.model F.model bank.old.make) (seen bank.old.lanes) (Ask self.now.numbers (Step count)) }
+        ensures leaves { seen bank.new.lanes ≡ after (models S.model F.model bank.old.make) (seen bank.old.lanes) (Ask self.now.numbers (Step count)) }
         ensures make { bank.new.make ≡ bank.old.make }
     {
         bank.step(self.name(), count)
@@ -77,8 +77,8 @@ impl Hold {
 
     /// Tells the digits made and the partial result.
     pub fn look<S: Selector, F: NumberForm>(&self, bank: &Bank<S, F>) -> Result<(u32, u32), Refusal>
-        ensures answers { shown result ≡ answer (make (S.Selector.model bank.now.make.selector) (F.NumberForm.model bank.now.make.form)) (seen bank.now.lanes) (Ask self.now.numbers Look) }
-        ensures leaves { seen bank.now.lanes ≡ after (make (S.Selector.model bank.now.make.selector) (F.NumberForm.model bank.now.make.form)) (seen bank.now.lanes) (Ask self.now.numbers Look) }
+        ensures answers { shown result ≡ answer (models S.model F.model bank.now.make) (seen bank.now.lanes) (Ask self.now.numbers Look) }
+        ensures leaves { seen bank.now.lanes ≡ after (models S.model F.model bank.now.make) (seen bank.now.lanes) (Ask self.now.numbers Look) }
     {
         bank.look(self.name())
     }
@@ -91,8 +91,8 @@ impl Hold {
         control: &mut C,
     ) -> Result<Answer, Rejected>
         ensures keeps { C.keeps control.old control.new }
-        ensures answers { CollectedBy (make (S.Selector.model bank.old.make.selector) (F.NumberForm.model bank.old.make.form)) (seen bank.old.lanes) self (C.control control.old) (C.control control.new) result }
-        ensures leaves { seen bank.new.lanes ≡ after (make (S.Selector.model bank.old.make.selector) (F.NumberForm.model bank.old.make.form)) (seen bank.old.lanes) (Ask self.numbers (Collect (C.control control.old).mode)) }
+        ensures answers { CollectedBy (models S.model F.model bank.old.make) (seen bank.old.lanes) self (C.control control.old) (C.control control.new) result }
+        ensures leaves { seen bank.new.lanes ≡ after (models S.model F.model bank.old.make) (seen bank.old.lanes) (Ask self.numbers (Collect (C.control control.old).mode)) }
         ensures make { bank.new.make ≡ bank.old.make }
     {
         let answer = bank
@@ -107,8 +107,8 @@ impl Hold {
 
     /// Frees the lane and uses up the hold.
     pub fn give<S: Selector, F: NumberForm>(self, bank: &mut Bank<S, F>) -> Result<(), Rejected>
-        ensures answers { GivenBy (make (S.Selector.model bank.old.make.selector) (F.NumberForm.model bank.old.make.form)) (seen bank.old.lanes) self result }
-        ensures leaves { seen bank.new.lanes ≡ after (make (S.Selector.model bank.old.make.selector) (F.NumberForm.model bank.old.make.form)) (seen bank.old.lanes) (Ask self.numbers Give) }
+        ensures answers { GivenBy (models S.model F.model bank.old.make) (seen bank.old.lanes) self result }
+        ensures leaves { seen bank.new.lanes ≡ after (models S.model F.model bank.old.make) (seen bank.old.lanes) (Ask self.numbers Give) }
         ensures make { bank.new.make ≡ bank.old.make }
     {
         bank.give(self.name()).map_err(|refusal| Rejected {

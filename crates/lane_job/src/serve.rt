@@ -1,6 +1,6 @@
 ghost use Rattle.std.specs.Prelude.{◌≡◌};
 ghost use Rattle.protocol.specs.declared.call.Request.TheVariants.{Load, Load32, Step, Look, Collect};
-ghost use Rattle.protocol.specs.Operands.{make as make_of};
+ghost use Rattle.protocol.specs.Operands.{models};
 ghost use Rattle.protocol.specs.Bank.{serve, said};
 ghost use Rattle.lane_job.specs.Seen.{seen_option, served_load, served_step, served_collect, shown, FewMade};
 
@@ -21,7 +21,7 @@ pub fn serve_load<S: Selector, F: NumberForm>(
     q: u32,
     x: u32,
 ) -> Result<LaneJob, Refusal>
-    ensures { served_load result ≡ serve (make_of (S.Selector.model make.now.selector) (F.NumberForm.model make.now.form)) (seen_option job) (Load k q x) }
+    ensures { served_load result ≡ serve (models S.model F.model make.now) (seen_option job) (Load k q x) }
 {
     if job.is_some() {
         return Err(Refusal::AlreadyLoaded);
@@ -36,7 +36,7 @@ pub fn serve_load32<S: Selector, F: NumberForm>(
     job: Option<LaneJob>,
     word: u32,
 ) -> Result<LaneJob, Refusal>
-    ensures { served_load result ≡ serve (make_of (S.Selector.model make.now.selector) (F.NumberForm.model make.now.form)) (seen_option job) (Load32 word) }
+    ensures { served_load result ≡ serve (models S.model F.model make.now) (seen_option job) (Load32 word) }
 {
     if job.is_some() {
         return Err(Refusal::AlreadyLoaded);
@@ -50,7 +50,7 @@ pub fn serve_step<S: Selector, F: NumberForm>(
     job: Option<LaneJob>,
     count: u32,
 ) -> Result<(u32, LaneJob), Refusal>
-    ensures { served_step result ≡ serve (make_of (S.Selector.model make.now.selector) (F.NumberForm.model make.now.form)) (seen_option job) (Step count) }
+    ensures { served_step result ≡ serve (models S.model F.model make.now) (seen_option job) (Step count) }
 {
     let job = job.ok_or(Refusal::NoJob)?;
     let digits = count.min(job.left(make));
@@ -62,7 +62,7 @@ pub fn serve_look<S: Selector, F: NumberForm>(
     make: &Make<S, F>,
     job: Option<LaneJob>,
 ) -> Result<(u32, u32), Refusal>
-    ensures is { shown result ≡ said (serve (make_of (S.Selector.model make.now.selector) (F.NumberForm.model make.now.form)) (seen_option job) Look) }
+    ensures is { shown result ≡ said (serve (models S.model F.model make.now) (seen_option job) Look) }
     ensures few { FewMade result }
 {
     let job = job.ok_or(Refusal::NoJob)?;
@@ -75,7 +75,7 @@ pub fn serve_collect<S: Selector, F: NumberForm>(
     job: Option<LaneJob>,
     mode: Mode,
 ) -> Result<Answer, Refusal>
-    ensures { served_collect result ≡ serve (make_of (S.Selector.model make.now.selector) (F.NumberForm.model make.now.form)) (seen_option job) (Collect mode) }
+    ensures { served_collect result ≡ serve (models S.model F.model make.now) (seen_option job) (Collect mode) }
 {
     let job = job.ok_or(Refusal::NoJob)?;
     job.told(make, mode).ok_or(Refusal::DigitsLeft)

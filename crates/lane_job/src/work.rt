@@ -1,7 +1,7 @@
 ghost use Rattle.std.specs.Prelude.{◌≡◌, ◌≤◌};
 ghost use Rattle.std.specs.Option.{option_map};
 ghost use Rattle.recurrence.specs.Recurrence as recurrence;
-ghost use Rattle.protocol.specs.Operands.{make as make_of};
+ghost use Rattle.protocol.specs.Operands.{models};
 ghost use Rattle.protocol.specs.Operands.Operand.{fixed, single};
 ghost use Rattle.protocol.specs.Jobs.{begun, turned, turns, made, left, partial, told, fixed_answer, worked_by};
 ghost use Rattle.lane_job.specs.Seen.{seen_job};
@@ -21,14 +21,14 @@ use single::mode::Mode;
 impl LaneJob {
     /// Begins a fixed-point job.
     pub(crate) fn begin<S: Selector, F: NumberForm>(make: &Make<S, F>, operand: Operand) -> LaneJob
-        ensures { seen_job result ≡ begun (make_of (S.Selector.model make.now.selector) (F.NumberForm.model make.now.form)) (fixed operand.k operand.q operand.x) }
+        ensures { seen_job result ≡ begun (models S.model F.model make.now) (fixed operand.k operand.q operand.x) }
     {
         LaneJob::Fixed(Job::begin(make, operand))
     }
 
     /// Begins a single's job.
     pub(crate) fn begin_single<S: Selector, F: NumberForm>(make: &Make<S, F>, word: u32) -> LaneJob
-        ensures { seen_job result ≡ begun (make_of (S.Selector.model make.now.selector) (F.NumberForm.model make.now.form)) (single word) }
+        ensures { seen_job result ≡ begun (models S.model F.model make.now) (single word) }
     {
         match Decoded::from(word) {
             Decoded::Special(special) => LaneJob::Settled(special.answer()),
@@ -41,7 +41,7 @@ impl LaneJob {
 
     /// Makes one digit, where one is left to make.
     pub(crate) fn turn<S: Selector, F: NumberForm>(self, make: &Make<S, F>) -> LaneJob
-        ensures { seen_job result ≡ turned (make_of (S.Selector.model make.now.selector) (F.NumberForm.model make.now.form)) (seen_job self) }
+        ensures { seen_job result ≡ turned (models S.model F.model make.now) (seen_job self) }
     {
         match self {
             LaneJob::Settled(answer) => LaneJob::Settled(answer),
@@ -58,7 +58,7 @@ impl LaneJob {
 
     /// Makes so many digits, one upon the other.
     pub(crate) fn turns<S: Selector, F: NumberForm>(self, make: &Make<S, F>, count: u32) -> LaneJob
-        ensures { seen_job result ≡ turns (make_of (S.Selector.model make.now.selector) (F.NumberForm.model make.now.form)) count (seen_job self) }
+        ensures { seen_job result ≡ turns (models S.model F.model make.now) count (seen_job self) }
     {
         let mut job = self;
         for _ in 0..count {
@@ -79,7 +79,7 @@ impl LaneJob {
 
     /// Counts the digits made.
     pub(crate) fn made<S: Selector, F: NumberForm>(self, make: &Make<S, F>) -> u32
-        ensures is { result ≡ made (make_of (S.Selector.model make.now.selector) (F.NumberForm.model make.now.form)) (seen_job self) }
+        ensures is { result ≡ made (models S.model F.model make.now) (seen_job self) }
         ensures few { result ≤ 28 }
     {
         self.worked_by().map_or(0, |job| job.made(&make.selector))
@@ -87,7 +87,7 @@ impl LaneJob {
 
     /// Counts the digits left to make.
     pub(crate) fn left<S: Selector, F: NumberForm>(self, make: &Make<S, F>) -> u32
-        ensures { result ≡ left (make_of (S.Selector.model make.now.selector) (F.NumberForm.model make.now.form)) (seen_job self) }
+        ensures { result ≡ left (models S.model F.model make.now) (seen_job self) }
     {
         self.worked_by().map_or(0, |job| job.left(&make.selector))
     }
@@ -105,7 +105,7 @@ impl LaneJob {
         make: &Make<S, F>,
         mode: Mode,
     ) -> Option<Answer>
-        ensures { result ≡ told (make_of (S.Selector.model make.now.selector) (F.NumberForm.model make.now.form)) mode (seen_job self) }
+        ensures { result ≡ told (models S.model F.model make.now) mode (seen_job self) }
     {
         match self {
             LaneJob::Settled(answer) => Some(answer),

@@ -5,6 +5,7 @@ use Rattle.number_form.specs.Forms.{FormModel, LawfulForm}
 use Rattle.selection.specs.Operands.{quarter}
 use Rattle.selection.specs.Selectors.{SelectorModel, LawfulSelector}
 use Rattle.selection.specs.Selectors as selectors
+use Rattle.recurrence.specs.declared.make.Make.{Make as CodeMake}
 use Rattle.recurrence.specs.Recurrence.{turns, first_registers}
 use Rattle.recurrence.specs.Root.{ReciprocalRoot, Exactness}
 use Rattle.single.specs.declared.mode.Mode.{Mode}
@@ -22,6 +23,10 @@ pub record Make : Type 0 where
 
 abbrev pub make : SelectorModel → FormModel → Make
 make S F = record { selector = S; form = F }
+
+-- the make that a code's make is, by the models of its selector and its form
+abbrev pub models : {S F : Type 0} → (S → SelectorModel) → (F → FormModel) → CodeMake S F → Make
+models s f m = make (s m.selector) (f m.form)
 
 pub record Lawful (m : Make) : Type 0 where
   pub selector : LawfulSelector shortfall m.selector
