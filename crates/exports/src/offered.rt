@@ -39,12 +39,12 @@ impl Offered {
     {
         match self {
             Offered::Radix2Plain => task.by(&Make {
-                selector: Radix2,
-                form: Plain,
+                selector: &Radix2,
+                form: &Plain,
             }),
             Offered::Radix4CarrySave => task.by(&Make {
-                selector: Radix4,
-                form: CarrySave,
+                selector: &Radix4,
+                form: &CarrySave,
             }),
         }
     }

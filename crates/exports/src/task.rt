@@ -27,8 +27,8 @@ pub trait Task {
     ghost right: { Self → Self.Told → Type 0 };
 
     /// Works the task off by a make.
-    fn by<S: Selector, F: NumberForm>(&self, make: &Make<S, F>) -> Self::Told
-        ensures is { result ≡ gives self.now (S.Selector.model make.now.selector) (F.NumberForm.model make.now.form) }
+    fn by<S: Selector, F: NumberForm>(&self, make: &Make<'_, S, F>) -> Self::Told
+        ensures is { result ≡ gives self.now (S.Selector.model make.now.selector.now) (F.NumberForm.model make.now.form.now) }
         ensures right { right self.now result };
 }
 
@@ -39,7 +39,7 @@ impl Task for Operand {
 
     ghost right = { λ o r. ReciprocalRoot o.k o.q o.x r.f };
 
-    fn by<S: Selector, F: NumberForm>(&self, make: &Make<S, F>) -> Outcome {
+    fn by<S: Selector, F: NumberForm>(&self, make: &Make<'_, S, F>) -> Outcome {
         work(make, *self)
     }
 }
@@ -58,7 +58,7 @@ impl Task for SingleTask {
 
     ghost right = { λ t r. Rsqrt t.mode t.word r.word r.marks };
 
-    fn by<S: Selector, F: NumberForm>(&self, make: &Make<S, F>) -> Answer {
+    fn by<S: Selector, F: NumberForm>(&self, make: &Make<'_, S, F>) -> Answer {
         rsqrt(make, self.word, self.mode)
     }
 }

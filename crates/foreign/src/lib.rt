@@ -17,8 +17,8 @@ mod tests {
     fn eight_sixteenths(rt: HostRuntime) -> Result<(), Fail> {
         let operand = Operand::new(4, 4, 8).map_err(|_| Fail::new("8 is an operand of 4 bits"))?;
         let make = Make {
-            selector: MiddleStart,
-            form: DualRail,
+            selector: &MiddleStart,
+            form: &DualRail,
         };
         assert_eq!(rt; work(&make, operand).f, 22);
         Ok(())

@@ -1,12 +1,12 @@
 ghost use Rattle.std.specs.Prelude.{◌≡◌};
 ghost use Rattle.protocol.specs.declared.call.Call.TheVariants.{Take, Ask};
 ghost use Rattle.protocol.specs.declared.call.Request.TheVariants.{Load, Load32, Step, Look, Collect, Give};
-ghost use Rattle.protocol.specs.Operands.{models};
 ghost use Rattle.protocol.specs.Bank.{answer, after};
 ghost use Rattle.lane_job.specs.Seen.{shown};
 ghost use Rattle.lanes.specs.Seen.{seen};
 ghost use Rattle.lanes.specs.Replies.{done, stepped};
 ghost use Rattle.hold.specs.Holds.{TakenBy, GivenBy, CollectedBy};
+ghost use Rattle.bank.specs.Makes.{models, KeepsMake};
 
 use crate::hold::{Hold, Rejected};
 use bank::bank::Bank;
@@ -24,9 +24,9 @@ impl Hold {
         lane: u32,
         ticks: u32,
     ) -> Result<Hold, Refusal>
-        ensures answers { TakenBy (models S.model F.model bank.old.make) (seen bank.old.lanes) lane ticks result }
-        ensures leaves { seen bank.new.lanes ≡ after (models S.model F.model bank.old.make) (seen bank.old.lanes) (Take lane ticks) }
-        ensures make { bank.new.make ≡ bank.old.make }
+        ensures answers { TakenBy (models S.model F.model bank.old) (seen bank.old.lanes) lane ticks result }
+        ensures leaves { seen bank.new.lanes ≡ after (models S.model F.model bank.old) (seen bank.old.lanes) (Take lane ticks) }
+        ensures make { KeepsMake bank.old bank.new }
     {
         let serial = bank.take(lane, ticks)?;
         Ok(Hold {
@@ -42,9 +42,9 @@ impl Hold {
         q: u32,
         x: u32,
     ) -> Result<(), Refusal>
-        ensures answers { done result ≡ answer (models S.model F.model bank.old.make) (seen bank.old.lanes) (Ask self.now.numbers (Load k q x)) }
-        ensures leaves { seen bank.new.lanes ≡ after (models S.model F.model bank.old.make) (seen bank.old.lanes) (Ask self.now.numbers (Load k q x)) }
-        ensures make { bank.new.make ≡ bank.old.make }
+        ensures answers { done result ≡ answer (models S.model F.model bank.old) (seen bank.old.lanes) (Ask self.now.numbers (Load k q x)) }
+        ensures leaves { seen bank.new.lanes ≡ after (models S.model F.model bank.old) (seen bank.old.lanes) (Ask self.now.numbers (Load k q x)) }
+        ensures make { KeepsMake bank.old bank.new }
     {
         bank.load(self.name(), k, q, x)
     }
@@ -55,9 +55,9 @@ impl Hold {
         bank: &mut Bank<S, F>,
         word: u32,
     ) -> Result<(), Refusal>
-        ensures answers { done result ≡ answer (models S.model F.model bank.old.make) (seen bank.old.lanes) (Ask self.now.numbers (Load32 word)) }
-        ensures leaves { seen bank.new.lanes ≡ after (models S.model F.model bank.old.make) (seen bank.old.lanes) (Ask self.now.numbers (Load32 word)) }
-        ensures make { bank.new.make ≡ bank.old.make }
+        ensures answers { done result ≡ answer (models S.model F.model bank.old) (seen bank.old.lanes) (Ask self.now.numbers (Load32 word)) }
+        ensures leaves { seen bank.new.lanes ≡ after (models S.model F.model bank.old) (seen bank.old.lanes) (Ask self.now.numbers (Load32 word)) }
+        ensures make { KeepsMake bank.old bank.new }
     {
         bank.load32(self.name(), word)
     }
@@ -68,17 +68,17 @@ impl Hold {
         bank: &mut Bank<S, F>,
         count: u32,
     ) -> Result<u32, Refusal>
-        ensures answers { stepped result ≡ answer (models S.model F.model bank.old.make) (seen bank.old.lanes) (Ask self.now.numbers (Step count)) }
-        ensures leaves { seen bank.new.lanes ≡ after (models S.model F.model bank.old.make) (seen bank.old.lanes) (Ask self.now.numbers (Step count)) }
-        ensures make { bank.new.make ≡ bank.old.make }
+        ensures answers { stepped result ≡ answer (models S.model F.model bank.old) (seen bank.old.lanes) (Ask self.now.numbers (Step count)) }
+        ensures leaves { seen bank.new.lanes ≡ after (models S.model F.model bank.old) (seen bank.old.lanes) (Ask self.now.numbers (Step count)) }
+        ensures make { KeepsMake bank.old bank.new }
     {
         bank.step(self.name(), count)
     }
 
     /// Tells the digits made and the partial result.
     pub fn look<S: Selector, F: NumberForm>(&self, bank: &Bank<S, F>) -> Result<(u32, u32), Refusal>
-        ensures answers { shown result ≡ answer (models S.model F.model bank.now.make) (seen bank.now.lanes) (Ask self.now.numbers Look) }
-        ensures leaves { seen bank.now.lanes ≡ after (models S.model F.model bank.now.make) (seen bank.now.lanes) (Ask self.now.numbers Look) }
+        ensures answers { shown result ≡ answer (models S.model F.model bank.now) (seen bank.now.lanes) (Ask self.now.numbers Look) }
+        ensures leaves { seen bank.now.lanes ≡ after (models S.model F.model bank.now) (seen bank.now.lanes) (Ask self.now.numbers Look) }
     {
         bank.look(self.name())
     }
@@ -91,9 +91,9 @@ impl Hold {
         control: &mut C,
     ) -> Result<Answer, Rejected>
         ensures keeps { C.keeps control.old control.new }
-        ensures answers { CollectedBy (models S.model F.model bank.old.make) (seen bank.old.lanes) self (C.control control.old) (C.control control.new) result }
-        ensures leaves { seen bank.new.lanes ≡ after (models S.model F.model bank.old.make) (seen bank.old.lanes) (Ask self.numbers (Collect (C.control control.old).mode)) }
-        ensures make { bank.new.make ≡ bank.old.make }
+        ensures answers { CollectedBy (models S.model F.model bank.old) (seen bank.old.lanes) self (C.control control.old) (C.control control.new) result }
+        ensures leaves { seen bank.new.lanes ≡ after (models S.model F.model bank.old) (seen bank.old.lanes) (Ask self.numbers (Collect (C.control control.old).mode)) }
+        ensures make { KeepsMake bank.old bank.new }
     {
         let answer = bank
             .collect(self.name(), control.mode())
@@ -107,9 +107,9 @@ impl Hold {
 
     /// Frees the lane and uses up the hold.
     pub fn give<S: Selector, F: NumberForm>(self, bank: &mut Bank<S, F>) -> Result<(), Rejected>
-        ensures answers { GivenBy (models S.model F.model bank.old.make) (seen bank.old.lanes) self result }
-        ensures leaves { seen bank.new.lanes ≡ after (models S.model F.model bank.old.make) (seen bank.old.lanes) (Ask self.numbers Give) }
-        ensures make { bank.new.make ≡ bank.old.make }
+        ensures answers { GivenBy (models S.model F.model bank.old) (seen bank.old.lanes) self result }
+        ensures leaves { seen bank.new.lanes ≡ after (models S.model F.model bank.old) (seen bank.old.lanes) (Ask self.numbers Give) }
+        ensures make { KeepsMake bank.old bank.new }
     {
         bank.give(self.name()).map_err(|refusal| Rejected {
             hold: self,

@@ -15,7 +15,7 @@ use single::mode::Mode;
 
 /// Loads a fixed-point operand where no job is loaded.
 pub fn serve_load<S: Selector, F: NumberForm>(
-    make: &Make<S, F>,
+    make: &Make<'_, S, F>,
     job: Option<LaneJob>,
     k: u32,
     q: u32,
@@ -32,7 +32,7 @@ pub fn serve_load<S: Selector, F: NumberForm>(
 
 /// Loads a single where no job is loaded.
 pub fn serve_load32<S: Selector, F: NumberForm>(
-    make: &Make<S, F>,
+    make: &Make<'_, S, F>,
     job: Option<LaneJob>,
     word: u32,
 ) -> Result<LaneJob, Refusal>
@@ -46,7 +46,7 @@ pub fn serve_load32<S: Selector, F: NumberForm>(
 
 /// Makes the lesser of the count and the digits left, and tells how many.
 pub fn serve_step<S: Selector, F: NumberForm>(
-    make: &Make<S, F>,
+    make: &Make<'_, S, F>,
     job: Option<LaneJob>,
     count: u32,
 ) -> Result<(u32, LaneJob), Refusal>
@@ -59,7 +59,7 @@ pub fn serve_step<S: Selector, F: NumberForm>(
 
 /// Tells the digits made and the partial result.
 pub fn serve_look<S: Selector, F: NumberForm>(
-    make: &Make<S, F>,
+    make: &Make<'_, S, F>,
     job: Option<LaneJob>,
 ) -> Result<(u32, u32), Refusal>
     ensures is { shown result ≡ said (serve (models S.model F.model make.now) (seen_option job) Look) }
@@ -71,7 +71,7 @@ pub fn serve_look<S: Selector, F: NumberForm>(
 
 /// Tells word and marks, once all digits are made.
 pub fn serve_collect<S: Selector, F: NumberForm>(
-    make: &Make<S, F>,
+    make: &Make<'_, S, F>,
     job: Option<LaneJob>,
     mode: Mode,
 ) -> Result<Answer, Refusal>

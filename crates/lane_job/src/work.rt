@@ -20,14 +20,14 @@ use single::mode::Mode;
 
 impl LaneJob {
     /// Begins a fixed-point job.
-    pub(crate) fn begin<S: Selector, F: NumberForm>(make: &Make<S, F>, operand: Operand) -> LaneJob
+    pub(crate) fn begin<S: Selector, F: NumberForm>(make: &Make<'_, S, F>, operand: Operand) -> LaneJob
         ensures { seen_job result ≡ begun (models S.model F.model make.now) (fixed operand.k operand.q operand.x) }
     {
         LaneJob::Fixed(Job::begin(make, operand))
     }
 
     /// Begins a single's job.
-    pub(crate) fn begin_single<S: Selector, F: NumberForm>(make: &Make<S, F>, word: u32) -> LaneJob
+    pub(crate) fn begin_single<S: Selector, F: NumberForm>(make: &Make<'_, S, F>, word: u32) -> LaneJob
         ensures { seen_job result ≡ begun (models S.model F.model make.now) (single word) }
     {
         match Decoded::from(word) {
@@ -40,7 +40,7 @@ impl LaneJob {
     }
 
     /// Makes one digit, where one is left to make.
-    pub(crate) fn turn<S: Selector, F: NumberForm>(self, make: &Make<S, F>) -> LaneJob
+    pub(crate) fn turn<S: Selector, F: NumberForm>(self, make: &Make<'_, S, F>) -> LaneJob
         ensures { seen_job result ≡ turned (models S.model F.model make.now) (seen_job self) }
     {
         match self {
@@ -57,7 +57,7 @@ impl LaneJob {
     }
 
     /// Makes so many digits, one upon the other.
-    pub(crate) fn turns<S: Selector, F: NumberForm>(self, make: &Make<S, F>, count: u32) -> LaneJob
+    pub(crate) fn turns<S: Selector, F: NumberForm>(self, make: &Make<'_, S, F>, count: u32) -> LaneJob
         ensures { seen_job result ≡ turns (models S.model F.model make.now) count (seen_job self) }
     {
         let mut job = self;
@@ -78,18 +78,18 @@ impl LaneJob {
     }
 
     /// Counts the digits made.
-    pub(crate) fn made<S: Selector, F: NumberForm>(self, make: &Make<S, F>) -> u32
+    pub(crate) fn made<S: Selector, F: NumberForm>(self, make: &Make<'_, S, F>) -> u32
         ensures is { result ≡ made (models S.model F.model make.now) (seen_job self) }
         ensures few { result ≤ 28 }
     {
-        self.worked_by().map_or(0, |job| job.made(&make.selector))
+        self.worked_by().map_or(0, |job| job.made(make.selector))
     }
 
     /// Counts the digits left to make.
-    pub(crate) fn left<S: Selector, F: NumberForm>(self, make: &Make<S, F>) -> u32
+    pub(crate) fn left<S: Selector, F: NumberForm>(self, make: &Make<'_, S, F>) -> u32
         ensures { result ≡ left (models S.model F.model make.now) (seen_job self) }
     {
-        self.worked_by().map_or(0, |job| job.left(&make.selector))
+        self.worked_by().map_or(0, |job| job.left(make.selector))
     }
 
     /// Gives the partial result.
@@ -102,7 +102,7 @@ impl LaneJob {
     /// Tells word and marks, once no digit is left to make.
     pub(crate) fn told<S: Selector, F: NumberForm>(
         self,
-        make: &Make<S, F>,
+        make: &Make<'_, S, F>,
         mode: Mode,
     ) -> Option<Answer>
         ensures { result ≡ told (models S.model F.model make.now) mode (seen_job self) }

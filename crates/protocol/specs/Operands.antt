@@ -26,7 +26,7 @@ make S F = record { selector = S; form = F }
 
 -- the make that a code's make is, by the models of its selector and its form
 abbrev pub models : {S F : Type 0} → (S → SelectorModel) → (F → FormModel) → CodeMake S F → Make
-models s f m = make (s m.selector) (f m.form)
+models s f m = make (s m.selector.now) (f m.form.now)
 
 pub record Lawful (m : Make) : Type 0 where
   pub selector : LawfulSelector shortfall m.selector

@@ -12,8 +12,8 @@ use selection::start::Start;
 
 impl Running {
     /// Sets the registers for an operand.
-    pub(crate) fn new<S: Selector, F: NumberForm>(make: &Make<S, F>, operand: Operand) -> Running
-        ensures { result.registers ≡ first_registers (S.Selector.model make.now.selector) (F.NumberForm.model make.now.form) operand.k operand.q operand.x }
+    pub(crate) fn new<S: Selector, F: NumberForm>(make: &Make<'_, S, F>, operand: Operand) -> Running
+        ensures { result.registers ≡ first_registers (S.Selector.model make.now.selector.now) (F.NumberForm.model make.now.form.now) operand.k operand.q operand.x }
     {
         let start = make.selector.start(operand.k, operand.x);
         let residual = make.form.set(first_residual(operand, start));

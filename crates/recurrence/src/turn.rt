@@ -15,9 +15,9 @@ use selection::Selector;
 
 impl Running {
     /// Makes one digit, and tells how it was chosen; where none is left to make, it tells nothing and changes nothing.
-    pub(crate) fn turn<S: Selector, F: NumberForm>(&mut self, make: &Make<S, F>) -> Option<Choice>
-        ensures tells { result ≡ (if complete (S.Selector.model make.now.selector) self.old.registers then None else Some (chosen (S.Selector.model make.now.selector) (F.NumberForm.model make.now.form) self.old.registers)) }
-        ensures after { self.new.registers ≡ turned (S.Selector.model make.now.selector) (F.NumberForm.model make.now.form) self.old.registers }
+    pub(crate) fn turn<S: Selector, F: NumberForm>(&mut self, make: &Make<'_, S, F>) -> Option<Choice>
+        ensures tells { result ≡ (if complete (S.Selector.model make.now.selector.now) self.old.registers then None else Some (chosen (S.Selector.model make.now.selector.now) (F.NumberForm.model make.now.form.now) self.old.registers)) }
+        ensures after { self.new.registers ≡ turned (S.Selector.model make.now.selector.now) (F.NumberForm.model make.now.form.now) self.old.registers }
     {
         make.selector.lawful();
         let bits = S::B;
@@ -30,7 +30,7 @@ impl Running {
         let shifted = make.form.shift(before.residual, shift_by(bits));
         let choice = pick(make, before.k + before.q, shifted, before.product);
         let terms = Terms::of(choice.digit, at_place(u64::from(before.factor), place));
-        let residual = reduce(&make.form, terms, before.product, shifted);
+        let residual = reduce(make.form, terms, before.product, shifted);
         let product = make.form.add(before.product, terms.once);
         let partial = before.partial.append(radix, choice.digit, place);
         self.registers = Registers {
@@ -75,15 +75,15 @@ impl Running {
 
 /// Chooses a digit from the shifted residual and the product, which are kept times 2^scale.
 pub(crate) fn pick<S: Selector, F: NumberForm>(
-    make: &Make<S, F>,
+    make: &Make<'_, S, F>,
     scale: u32,
     shifted: Words,
     product: Words,
 ) -> Choice
     requires { (6 ≤ scale) × (scale ≤ 60) }
-    ensures is { result ≡ chosen_from (S.Selector.model make.now.selector) (F.NumberForm.model make.now.form) scale shifted product }
-    ensures least { neg_ℤ (pos (2 ^ (S.Selector.model make.now.selector).bits)) <ℤ result.digit }
-    ensures most { result.digit <ℤ pos (2 ^ (S.Selector.model make.now.selector).bits) }
+    ensures is { result ≡ chosen_from (S.Selector.model make.now.selector.now) (F.NumberForm.model make.now.form.now) scale shifted product }
+    ensures least { neg_ℤ (pos (2 ^ (S.Selector.model make.now.selector.now).bits)) <ℤ result.digit }
+    ensures most { result.digit <ℤ pos (2 ^ (S.Selector.model make.now.selector.now).bits) }
 {
     make.selector.lawful();
     let at_residual = Cut {

@@ -15,36 +15,36 @@ use selection::operand::Operand;
 
 /// Works an operand off by all its digits. The outcome is read off the registers after Q / b turns of the one step; it is the largest f with
 /// X (f / 2^Q)^2 at most 1, whatever the selector and the form, and at every stage on the way the registers mean what they should.
-pub fn work<S: Selector, F: NumberForm>(make: &Make<S, F>, operand: Operand) -> Outcome
-    ensures turns { result ≡ worked (S.Selector.model make.now.selector) (F.NumberForm.model make.now.form) operand.k operand.q operand.x }
+pub fn work<S: Selector, F: NumberForm>(make: &Make<'_, S, F>, operand: Operand) -> Outcome
+    ensures turns { result ≡ worked (S.Selector.model make.now.selector.now) (F.NumberForm.model make.now.form.now) operand.k operand.q operand.x }
     ensures root { ReciprocalRoot operand.k operand.q operand.x result.f }
     ensures no_other { (g : ℕ) → ReciprocalRoot operand.k operand.q operand.x g → g ≡ result.f }
     ensures exactness { Exactness operand.k operand.q operand.x result.f result.exact }
-    ensures stages { quarter operand.k operand.x ≡ false → Kept shortfall (S.Selector.model make.now.selector) (F.NumberForm.model make.now.form) operand.k operand.q operand.x }
+    ensures stages { quarter operand.k operand.x ≡ false → Kept shortfall (S.Selector.model make.now.selector.now) (F.NumberForm.model make.now.form.now) operand.k operand.q operand.x }
 {
     make.selector.lawful();
     make.form.lawful();
     make_all_turns(make, operand)
 }
 
-fn make_all_turns<S: Selector, F: NumberForm>(make: &Make<S, F>, operand: Operand) -> Outcome
-    ensures { result ≡ worked (S.Selector.model make.now.selector) (F.NumberForm.model make.now.form) operand.k operand.q operand.x }
+fn make_all_turns<S: Selector, F: NumberForm>(make: &Make<'_, S, F>, operand: Operand) -> Outcome
+    ensures { result ≡ worked (S.Selector.model make.now.selector.now) (F.NumberForm.model make.now.form.now) operand.k operand.q operand.x }
 {
     if operand.is_quarter() {
         return quarter_outcome(operand);
     }
     let mut running = Running::new(make, operand);
-    let digits = running.left(&make.selector);
+    let digits = running.left(make.selector);
     for _ in 0..digits {
         let _ = running.turn(make);
     }
-    running.result(&make.form)
+    running.result(make.form)
 }
 
 impl Job {
     /// Begins a job. X = 1/4 is settled at once: it takes no digits, and its result 2 is exact.
-    pub fn begin<S: Selector, F: NumberForm>(make: &Make<S, F>, operand: Operand) -> Job
-        ensures { seen result ≡ begun (S.Selector.model make.now.selector) (F.NumberForm.model make.now.form) operand.k operand.q operand.x }
+    pub fn begin<S: Selector, F: NumberForm>(make: &Make<'_, S, F>, operand: Operand) -> Job
+        ensures { seen result ≡ begun (S.Selector.model make.now.selector.now) (F.NumberForm.model make.now.form.now) operand.k operand.q operand.x }
     {
         if operand.is_quarter() {
             Job::Settled(quarter_outcome(operand))
@@ -54,9 +54,9 @@ impl Job {
     }
 
     /// Makes one digit, and tells how it was chosen; where none is left to make, it tells nothing and changes nothing.
-    pub fn turn<S: Selector, F: NumberForm>(&mut self, make: &Make<S, F>) -> Option<Choice>
-        ensures tells { result ≡ turn_told (S.Selector.model make.now.selector) (F.NumberForm.model make.now.form) (seen self.old) }
-        ensures after { seen self.new ≡ job_turned (S.Selector.model make.now.selector) (F.NumberForm.model make.now.form) (seen self.old) }
+    pub fn turn<S: Selector, F: NumberForm>(&mut self, make: &Make<'_, S, F>) -> Option<Choice>
+        ensures tells { result ≡ turn_told (S.Selector.model make.now.selector.now) (F.NumberForm.model make.now.form.now) (seen self.old) }
+        ensures after { seen self.new ≡ job_turned (S.Selector.model make.now.selector.now) (F.NumberForm.model make.now.form.now) (seen self.old) }
     {
         match self {
             Job::Settled(_) => None,
@@ -106,14 +106,14 @@ impl Job {
     }
 
     /// Tells what the job came to, once no digit is left to make.
-    pub fn outcome<S: Selector, F: NumberForm>(&self, make: &Make<S, F>) -> Option<Outcome>
-        ensures { result ≡ outcome (S.Selector.model make.now.selector) (F.NumberForm.model make.now.form) (seen self.now) }
+    pub fn outcome<S: Selector, F: NumberForm>(&self, make: &Make<'_, S, F>) -> Option<Outcome>
+        ensures { result ≡ outcome (S.Selector.model make.now.selector.now) (F.NumberForm.model make.now.form.now) (seen self.now) }
     {
         match self {
             Job::Settled(outcome) => Some(*outcome),
             Job::Running(running) => {
                 if running.registers.place < S::B {
-                    Some(running.result(&make.form))
+                    Some(running.result(make.form))
                 } else {
                     None
                 }

@@ -24,12 +24,12 @@ fn main(rt: HostRuntime) -> io::Result<()> {
     }
     println!(rt; "Digits over plain numbers, K = 4, Q = 4")?;
     let radix_2 = Make {
-        selector: Radix2,
-        form: Plain,
+        selector: &Radix2,
+        form: &Plain,
     };
     let radix_4 = Make {
-        selector: Radix4,
-        form: Plain,
+        selector: &Radix4,
+        form: &Plain,
     };
     for x in [8, 9, 10] {
         digits(&rt, &radix_2, "radix 2", x)?;
@@ -165,7 +165,7 @@ fn run(rt: &HostRuntime, k: u32, q: u32, x: u32) -> io::Result<()> {
 /// Prints the digits of a job and the partial result that they end at.
 fn digits<S: Selector>(
     rt: &HostRuntime,
-    make: &Make<S, Plain>,
+    make: &Make<'_, S, Plain>,
     name: &str,
     x: u32,
 ) -> io::Result<()> {
@@ -174,7 +174,7 @@ fn digits<S: Selector>(
     };
     let mut job = Job::begin(make, operand);
     print!(rt; "{name}  x {x:2}:")?;
-    for _ in 0..job.left(&make.selector) {
+    for _ in 0..job.left(make.selector) {
         if let Some(choice) = job.turn(make) {
             let digit = choice.digit;
             print!(rt; " {digit}")?;

@@ -13,20 +13,16 @@ pub(crate) fn six<T: Task>(task: &T) -> Option<T::Told>
 where
     T::Told: PartialEq + Drop,
 {
-    let told = by(task, Radix2, Plain);
-    let agree = by(task, Radix2, CarrySave) == told
-        && by(task, Radix2, BorrowSave) == told
-        && by(task, Radix4, Plain) == told
-        && by(task, Radix4, CarrySave) == told
-        && by(task, Radix4, BorrowSave) == told;
+    let told = by(task, &Radix2, &Plain);
+    let agree = by(task, &Radix2, &CarrySave) == told
+        && by(task, &Radix2, &BorrowSave) == told
+        && by(task, &Radix4, &Plain) == told
+        && by(task, &Radix4, &CarrySave) == told
+        && by(task, &Radix4, &BorrowSave) == told;
     agree.then_some(told)
 }
 
 /// Works a task off by the make of a selector and a form.
-fn by<T: Task, S: Selector + Drop, F: NumberForm + Drop>(
-    task: &T,
-    selector: S,
-    form: F,
-) -> T::Told {
+fn by<T: Task, S: Selector, F: NumberForm>(task: &T, selector: &S, form: &F) -> T::Told {
     task.by(&Make { selector, form })
 }

@@ -36,30 +36,25 @@ fn main(rt: HostRuntime) -> ExitCode {
 fn run(rt: &(impl Env + AllocGlobal + Print)) -> Result<(), Trouble> {
     let Request { radix, form, task } = request::read(rt)?;
     match radix {
-        Radix::Two => run_over(rt, Radix2, form, task)?,
-        Radix::Four => run_over(rt, Radix4, form, task)?,
+        Radix::Two => run_over(rt, &Radix2, form, task)?,
+        Radix::Four => run_over(rt, &Radix4, form, task)?,
     }
     Ok(())
 }
 
 /// Works a task off over a selector, in the form that is named.
-fn run_over<S: Selector + Drop>(
-    rt: &impl Print,
-    selector: S,
-    form: Form,
-    task: Task,
-) -> io::Result<()> {
+fn run_over<S: Selector>(rt: &impl Print, selector: &S, form: Form, task: Task) -> io::Result<()> {
     match form {
         Form::Plain => {
-            let form = Plain;
+            let form = &Plain;
             work_off(rt, &Make { selector, form }, task)
         }
         Form::CarrySave => {
-            let form = CarrySave;
+            let form = &CarrySave;
             work_off(rt, &Make { selector, form }, task)
         }
         Form::BorrowSave => {
-            let form = BorrowSave;
+            let form = &BorrowSave;
             work_off(rt, &Make { selector, form }, task)
         }
     }
@@ -68,7 +63,7 @@ fn run_over<S: Selector + Drop>(
 /// Works a task off over a make.
 fn work_off<S: Selector, F: NumberForm>(
     rt: &impl Print,
-    make: &Make<S, F>,
+    make: &Make<'_, S, F>,
     task: Task,
 ) -> io::Result<()> {
     match task {

@@ -13,7 +13,7 @@ use std::num::f32_from_bits_with_nan;
 /// Prints a single from its word to the word of its reciprocal root.
 pub(crate) fn print<S: Selector, F: NumberForm>(
     rt: &impl Print,
-    make: &Make<S, F>,
+    make: &Make<'_, S, F>,
     word: u32,
     mode: Mode,
 ) -> io::Result<()> {
@@ -46,7 +46,7 @@ fn print_decoding(rt: &impl Print, word: u32, number: Positive) -> io::Result<()
 /// Works the operand off, digit by digit, and prints what it is rounded to.
 fn print_digits<S: Selector, F: NumberForm>(
     rt: &impl Print,
-    make: &Make<S, F>,
+    make: &Make<'_, S, F>,
     number: Positive,
     mode: Mode,
 ) -> io::Result<()> {

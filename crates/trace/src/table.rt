@@ -10,7 +10,7 @@ use std::io;
 /// Prints a fixed-point job from its operand to its result.
 pub(crate) fn print<S: Selector, F: NumberForm>(
     rt: &impl Print,
-    make: &Make<S, F>,
+    make: &Make<'_, S, F>,
     operand: Operand,
 ) -> io::Result<()> {
     let mut job = Job::begin(make, operand);
@@ -20,7 +20,7 @@ pub(crate) fn print<S: Selector, F: NumberForm>(
 /// Prints a job that has begun, digit by digit, and leaves it finished.
 pub(crate) fn print_job<S: Selector, F: NumberForm>(
     rt: &impl Print,
-    make: &Make<S, F>,
+    make: &Make<'_, S, F>,
     operand: Operand,
     job: &mut Job,
 ) -> io::Result<()> {
@@ -30,11 +30,11 @@ pub(crate) fn print_job<S: Selector, F: NumberForm>(
     match job.registers() {
         None => println!(rt; "X is 1/4: settled, with no digits")?,
         Some(registers) => {
-            print_heading(rt, &make.selector)?;
+            print_heading(rt, make.selector)?;
             print_row(rt, operand, 0, registers, None)?;
         }
     }
-    for j in 1..=job.left(&make.selector) {
+    for j in 1..=job.left(make.selector) {
         let choice = job.turn(make);
         if let Some(registers) = job.registers() {
             print_row(rt, operand, j, registers, choice)?;

@@ -26,8 +26,8 @@ module _ (S : SelectorModel) (F : FormModel) (LS : LawfulSelector shortfall S) (
 
 pub returns : goal.returns
 returns g c =
-    let S = g.S.Selector.model c.args.make.now.selector in
-    let F = g.F.NumberForm.model c.args.make.now.form in
+    let S = g.S.Selector.model c.args.make.now.selector.now in
+    let F = g.F.NumberForm.model c.args.make.now.form.now in
     let o = c.args.operand in
     let r = c.make_all_turns.result in
     let e = c.make_all_turns.ensures in

@@ -16,8 +16,8 @@ right S F LS LF mode v r e = subst (λ (a : Answer). Rsqrt mode v a.word a.marks
 
 pub returns : goal.returns
 returns g c =
-    let S = g.S.Selector.model c.args.make.now.selector in
-    let F = g.F.NumberForm.model c.args.make.now.form in
+    let S = g.S.Selector.model c.args.make.now.selector.now in
+    let F = g.F.NumberForm.model c.args.make.now.form.now in
     let r = c.answer_by_digits.result in
     let it = right S F c.lawful.ensures c.lawful-2.ensures c.args.mode c.args.word r c.answer_by_digits.ensures in
     record {

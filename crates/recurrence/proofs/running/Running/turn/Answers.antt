@@ -9,8 +9,8 @@ use Rattle.recurrence.proofs.running.Running.turn.Goals as goal
 
 pub of-terms-requires : goal.of-terms-requires
 of-terms-requires g c =
-    let S = g.S.Selector.model c.args.make.now.selector in
-    let bits_is : c.B-bits.result ≡ S.bits = c.B-bits.ensures ∙ sym (g.met.S.Selector.named c.args.make.now.selector).bits in
+    let S = g.S.Selector.model c.args.make.now.selector.now in
+    let bits_is : c.B-bits.result ≡ S.bits = c.B-bits.ensures ∙ sym (g.met.S.Selector.named c.args.make.now.selector.now).bits in
     let rad : c.radix_of-radix.result ≡ 2 ^ S.bits = c.radix_of-radix.ensures.is ∙ ap (λ k. 2 ^ k) bits_is in
     let few : 2 ^ S.bits ≤ 4 = omega (arith, rad, c.radix_of-radix.ensures.most) in
     let least = c.pick-choice.ensures.least in
@@ -21,8 +21,8 @@ of-terms-requires g c =
 
 pub append-partial-requires : goal.append-partial-requires
 append-partial-requires g c =
-    let S = g.S.Selector.model c.args.make.now.selector in
-    let bits_is : c.B-bits.result ≡ S.bits = c.B-bits.ensures ∙ sym (g.met.S.Selector.named c.args.make.now.selector).bits in
+    let S = g.S.Selector.model c.args.make.now.selector.now in
+    let bits_is : c.B-bits.result ≡ S.bits = c.B-bits.ensures ∙ sym (g.met.S.Selector.named c.args.make.now.selector.now).bits in
     let rad : c.radix_of-radix.result ≡ 2 ^ S.bits = c.radix_of-radix.ensures.is ∙ ap (λ k. 2 ^ k) bits_is in
     let least = c.pick-choice.ensures.least in
     let most = c.pick-choice.ensures.most in
@@ -32,13 +32,13 @@ append-partial-requires g c =
 
 pub invariant_of-self : goal.invariant_of-self
 invariant_of-self g c =
-    let S = g.S.Selector.model c.args.make.now.selector in
+    let S = g.S.Selector.model c.args.make.now.selector.now in
     let u = c.args.self.now in
     let before = u.registers in
     let r = c.radix_of-radix.result in
     let b = c.B-bits.result in
     let p = before.place - b in
-    let bits_is : b ≡ S.bits = c.B-bits.ensures ∙ sym (g.met.S.Selector.named c.args.make.now.selector).bits in
+    let bits_is : b ≡ S.bits = c.B-bits.ensures ∙ sym (g.met.S.Selector.named c.args.make.now.selector.now).bits in
     let q : ℤ = to_z w64 (of_z w64 c.pick-choice.result.digit) in
     let rad : r ≡ 2 ^ S.bits = c.radix_of-radix.ensures.is ∙ ap (λ k. 2 ^ k) bits_is in
     let least = c.pick-choice.ensures.least in
@@ -61,11 +61,11 @@ invariant_of-self g c =
 
 pub returns : goal.returns
 returns g c =
-    let S = g.S.Selector.model c.args.make.now.selector in
-    let F = g.F.NumberForm.model c.args.make.now.form in
+    let S = g.S.Selector.model c.args.make.now.selector.now in
+    let F = g.F.NumberForm.model c.args.make.now.form.now in
     let before = c.args.self.now.registers in
     let y = c.of-terms.result in
-    let bits_is : c.B-bits.result ≡ S.bits = c.B-bits.ensures ∙ sym (g.met.S.Selector.named c.args.make.now.selector).bits in
+    let bits_is : c.B-bits.result ≡ S.bits = c.B-bits.ensures ∙ sym (g.met.S.Selector.named c.args.make.now.selector.now).bits in
     let rad : c.radix_of-radix.result ≡ 2 ^ S.bits = c.radix_of-radix.ensures.is ∙ ap (λ k. 2 ^ k) bits_is in
     let few : 2 ^ S.bits ≤ 4 = omega (arith, rad, c.radix_of-radix.ensures.most) in
     let least = c.pick-choice.ensures.least in
