@@ -7,7 +7,7 @@ ghost use Rattle.records.specs.Records.{item, label_length};
 ghost use Rattle.lanes.specs.Seen.{seen};
 ghost use Rattle.lanes.specs.Replies.{FewShown};
 ghost use Rattle.stream.specs.Answers.{bytes};
-ghost use Rattle.stream.specs.Entries.{entry, calling, numbers, shown, refused, stated, heard, bank_then, control_then};
+ghost use Rattle.stream.specs.Entries.{entry, calling, numbers, shown, refused, stated, heard, hears, bank_then, control_then};
 
 use bank::bank::Bank;
 use control::collecting::Collecting;
@@ -52,38 +52,30 @@ fn work_off<S: Selector, F: NumberForm>(
 {
     match asked {
         Record::Note(label) => Ok(bytes_of(&[0, label.len() as u32])),
-        Record::Tick { time } => call(bank, Call::Tick { time }),
-        Record::Take { lane, ticks } => call(bank, Call::Take { lane, ticks }),
-        Record::Load { name, k, q, x } => ask(bank, name, Request::Load { k, q, x }),
-        Record::Load32 { name, word } => ask(bank, name, Request::Load32 { word }),
-        Record::Step { name, count } => ask(bank, name, Request::Step { count }),
-        Record::Look { name } => ask(bank, name, Request::Look),
+        Record::Call(asked) => call(bank, control, asked),
         Record::Collect { name, mode } => collect(bank, control, name, Mode::try_from(mode)?),
-        Record::Give { name } => ask(bank, name, Request::Give),
         Record::Marks => Ok(bytes_of(&[0, control.marks().number()])),
     }
 }
 
-/// Makes a call.
-fn call<S: Selector, F: NumberForm>(bank: &mut Bank<S, F>, call: Call) -> Result<ByteList<8>, Fault>
+/// Makes a call, a collect in a span of its mode.
+fn call<S: Selector, F: NumberForm>(
+    bank: &mut Bank<S, F>,
+    control: &mut Control,
+    call: Call,
+) -> Result<ByteList<8>, Fault>
     ensures says { (place : ℕ) → stated (λ told. told) place result ≡ bytes (numbers (calling (make (S.Selector.model bank.old.make.selector) (F.NumberForm.model bank.old.make.form)) (seen bank.old.lanes) place call)) }
     ensures leaves { seen bank.new.lanes ≡ after (make (S.Selector.model bank.old.make.selector) (F.NumberForm.model bank.old.make.form)) (seen bank.old.lanes) call }
+    ensures control { control.new ≡ hears call control.old (answer (make (S.Selector.model bank.old.make.selector) (F.NumberForm.model bank.old.make.form)) (seen bank.old.lanes) call) }
     ensures make { bank.new.make ≡ bank.old.make }
 {
-    Ok(shown(bank.answer(call)?))
-}
-
-/// Makes a call with a hold.
-fn ask<S: Selector, F: NumberForm>(
-    bank: &mut Bank<S, F>,
-    name: Name,
-    request: Request,
-) -> Result<ByteList<8>, Fault>
-    ensures says { (place : ℕ) → stated (λ told. told) place result ≡ bytes (numbers (calling (make (S.Selector.model bank.old.make.selector) (F.NumberForm.model bank.old.make.form)) (seen bank.old.lanes) place (Ask name request))) }
-    ensures leaves { seen bank.new.lanes ≡ after (make (S.Selector.model bank.old.make.selector) (F.NumberForm.model bank.old.make.form)) (seen bank.old.lanes) (Ask name request) }
-    ensures make { bank.new.make ≡ bank.old.make }
-{
-    call(bank, Call::Ask { name, request })
+    match call {
+        Call::Ask {
+            name,
+            request: Request::Collect { mode },
+        } => collect(bank, control, name, mode),
+        _ => Ok(shown(bank.answer(call)?)),
+    }
 }
 
 /// Collects in a span of the mode.
