@@ -23,14 +23,8 @@ pub data Item : Type 0 where
 
 abbrev pub item : Record → Item
 item (record_of.Note label) = note label.now
-item (record_of.Tick t) = call (Tick t)
-item (record_of.Take lane ticks) = call (Take lane ticks)
-item (record_of.Load h K Q x) = call (Ask h (Load K Q x))
-item (record_of.Load32 h v) = call (Ask h (Load32 v))
-item (record_of.Step h n) = call (Ask h (Step n))
-item (record_of.Look h) = call (Ask h Look)
+item (record_of.Call c) = call c
 item (record_of.Collect h mode) = collect h mode
-item (record_of.Give h) = call (Ask h Give)
 item record_of.Marks = marks
 
 -- how long a note's label is

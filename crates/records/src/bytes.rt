@@ -4,7 +4,7 @@ ghost use Rattle.records.specs.Records.{item, Gives, numbered, named, labelled, 
 use crate::defect::Defect;
 use crate::kind::Kind;
 use crate::record::Record;
-use protocol::call::Name;
+use protocol::call::{Call, Name, Request};
 use seven_bit::fault::NumberFault;
 use seven_bit::read::read;
 use seven_bit::split::first_and_rest;
@@ -36,33 +36,45 @@ impl<'a> Bytes<'a> {
     {
         match self.kind()? {
             Kind::Note => Ok(Record::Note(self.label()?)),
-            Kind::Tick => Ok(Record::Tick {
+            Kind::Tick => Ok(Record::Call(Call::Tick {
                 time: self.number()?,
-            }),
-            Kind::Take => Ok(Record::Take {
+            })),
+            Kind::Take => Ok(Record::Call(Call::Take {
                 lane: self.number()?,
                 ticks: self.number()?,
-            }),
-            Kind::Load => Ok(Record::Load {
+            })),
+            Kind::Load => Ok(Record::Call(Call::Ask {
                 name: self.name()?,
-                k: self.number()?,
-                q: self.number()?,
-                x: self.number()?,
-            }),
-            Kind::Load32 => Ok(Record::Load32 {
+                request: Request::Load {
+                    k: self.number()?,
+                    q: self.number()?,
+                    x: self.number()?,
+                },
+            })),
+            Kind::Load32 => Ok(Record::Call(Call::Ask {
                 name: self.name()?,
-                word: self.number()?,
-            }),
-            Kind::Step => Ok(Record::Step {
+                request: Request::Load32 {
+                    word: self.number()?,
+                },
+            })),
+            Kind::Step => Ok(Record::Call(Call::Ask {
                 name: self.name()?,
-                count: self.number()?,
-            }),
-            Kind::Look => Ok(Record::Look { name: self.name()? }),
+                request: Request::Step {
+                    count: self.number()?,
+                },
+            })),
+            Kind::Look => Ok(Record::Call(Call::Ask {
+                name: self.name()?,
+                request: Request::Look,
+            })),
             Kind::Collect => Ok(Record::Collect {
                 name: self.name()?,
                 mode: self.number()?,
             }),
-            Kind::Give => Ok(Record::Give { name: self.name()? }),
+            Kind::Give => Ok(Record::Call(Call::Ask {
+                name: self.name()?,
+                request: Request::Give,
+            })),
             Kind::Marks => Ok(Record::Marks),
         }
     }

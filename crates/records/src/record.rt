@@ -1,19 +1,14 @@
-use protocol::call::Name;
+use protocol::call::{Call, Name};
 
 /// A record of a stream.
 #[derive(Clone, Copy, Drop, PartialEq, Eq, Debug)]
 pub enum Record<'a> {
     /// A note with its label, which is a part of the input.
     Note(&'a [u8]),
-    Tick { time: u32 },
-    Take { lane: u32, ticks: u32 },
-    Load { name: Name, k: u32, q: u32, x: u32 },
-    Load32 { name: Name, word: u32 },
-    Step { name: Name, count: u32 },
-    Look { name: Name },
-    /// A collect by the number of its mode, which may be that of no mode.
+    /// A call of a bank.
+    Call(Call),
+    /// A collect by the number of its mode, which may be that of no mode, and so is no call yet.
     Collect { name: Name, mode: u32 },
-    Give { name: Name },
     /// The marks raised so far are asked for.
     Marks,
 }

@@ -1,5 +1,5 @@
 -- Bytes written one after the other.
-use Rattle.std.proofs.Common.{◌≡◌, ℕ, ◌+◌, ◌<◌, ◌≤◌, List, [], ◌++◌, get_or, subst, length, take, drop, sym, ap, ◌∙◌, append_assoc, append-nil, arith, length-append}
+use Rattle.std.proofs.Common.{◌≡◌, ℕ, ◌+◌, ◌<◌, ◌≤◌, List, [], ◌++◌, get_or, length, take, drop, sym, ap, ◌∙◌, append_assoc, append-nil, arith, length-append}
 use Rattle.std.proofs.lemmas.List.{drop-drop, take_more, flat_map_more}
 use Rattle.std.proofs.lemmas.List.Folds.{length-flat_map-take}
 use Rattle.seven_bit.specs.Numbers.{encoded}
@@ -17,16 +17,13 @@ wrote_then a o b p c q xs ys f s =
     further : drop c p ≡ drop c o
     further = rw s.next_is (sym (drop-drop (length ys) b p) ∙ ap (drop (length ys)) f.beyond ∙ drop-drop (length ys) b o)
 
--- one number more of some numbers is written
-pub wrote_more : (a : ℕ) (o : List ℕ) (b : ℕ) (p : List ℕ) (c : ℕ) (q vs : List ℕ) (i : ℕ) → Writes a o b p (bytes (take i vs)) → Writes b p c q (encoded (get_or vs i 0)) → i < length vs →
-    Writes a o c q (bytes (take (i + 1) vs))
-wrote_more a o b p c q vs i f s h =
-    let more : bytes (take i vs) ++ encoded (get_or vs i 0) ≡ bytes (take (i + 1) vs) = flat_map_more encoded [] (take i vs) (get_or vs i 0) ∙ ap bytes (sym (take_more vs i 0 h)) in
-    subst (λ (l : List ℕ). Writes a o c q l) more (wrote_then a o b p c q (bytes (take i vs)) (encoded (get_or vs i 0)) f s)
+-- the bytes of one number more of some numbers
+pub one_more : (vs : List ℕ) (i : ℕ) → i < length vs → bytes (take i vs) ++ encoded (get_or vs i 0) ≡ bytes (take (i + 1) vs)
+one_more vs i h = flat_map_more encoded [] (take i vs) (get_or vs i 0) ∙ ap bytes (sym (take_more vs i 0 h))
 
--- so there is room for it, where there is for all of them
-pub more_fits : (a : ℕ) (o : List ℕ) (b : ℕ) (p vs : List ℕ) (i : ℕ) → Writes a o b p (bytes (take i vs)) → i < length vs → a + length (bytes vs) ≤ length o → b + length (encoded (get_or vs i 0)) ≤ length p
-more_fits a o b p vs i f h room = omega (arith, f.next_is, f.room, length-flat_map-take encoded vs i 0 h)
+-- they are within the bytes of all
+pub one_more_fits : (vs : List ℕ) (i : ℕ) → i < length vs → length (bytes (take i vs)) + length (encoded (get_or vs i 0)) ≤ length (bytes vs)
+one_more_fits vs i h = length-flat_map-take encoded vs i 0 h
 
 pub wrote_last : (a : ℕ) (o : List ℕ) (b : ℕ) (p xs : List ℕ) → Writes a o b p xs → Writes a o b p (xs ++ [])
 wrote_last a o b p xs f = rw (append-nil xs) f

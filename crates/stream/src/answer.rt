@@ -1,4 +1,4 @@
-ghost use Rattle.std.specs.Prelude.{◌≡◌, ℕ, ◌^◌, ◌<◌, ◌≤◌, length, Ok, IfOk};
+ghost use Rattle.std.specs.Prelude.{◌≡◌, ℕ, ◌^◌, ◌<◌, ◌≤◌, length, Ok};
 ghost use Rattle.protocol.specs.declared.call.Call.TheVariants.{Ask};
 ghost use Rattle.protocol.specs.declared.call.Request.TheVariants.{Collect};
 ghost use Rattle.protocol.specs.Operands.{make};
@@ -7,9 +7,8 @@ ghost use Rattle.records.specs.Records.{item, label_length};
 ghost use Rattle.lanes.specs.Seen.{seen};
 ghost use Rattle.lanes.specs.Replies.{FewShown};
 ghost use Rattle.stream.specs.Answers.{bytes};
-ghost use Rattle.stream.specs.Entries.{entry, calling, numbers, shown, refused, stated, heard, bank_then, control_then};
+ghost use Rattle.stream.specs.Entries.{entry, calling, numbers, shown, refused, stated, heard, hears, bank_then, control_then};
 
-use crate::values::Values;
 use bank::bank::Bank;
 use control::collecting::Collecting;
 use control::control::Control;
@@ -18,19 +17,20 @@ use protocol::call::{Call, Name, Reply, Request};
 use records::fault::Fault;
 use records::record::Record;
 use selection::Selector;
+use seven_bit::byte_list::ByteList;
+use seven_bit::encode::encode;
 use single::mode::Mode;
 
-/// Works off a record at a place, and gives its answer: 0 and what it tells, or the number of its fault and the place.
+/// Works off a record at a place, and gives the bytes of its answer: 0 and what it tells, or the number of its fault and the place.
 pub(crate) fn answer<S: Selector, F: NumberForm>(
     bank: &mut Bank<S, F>,
     control: &mut Control,
     place: u32,
     asked: Record<'_>,
-) -> Values
+) -> ByteList<8>
     requires place { place < 2 ^ 21 }
     requires label { label_length (item asked) < 2 ^ 21 }
-    ensures says { result ≡ numbers (entry (make (S.Selector.model bank.old.make.selector) (F.NumberForm.model bank.old.make.form)) (seen bank.old.lanes) control.old place (item asked.entry)) }
-    ensures short { length (bytes result) ≤ 8 }
+    ensures says { result ≡ bytes (numbers (entry (make (S.Selector.model bank.old.make.selector) (F.NumberForm.model bank.old.make.form)) (seen bank.old.lanes) control.old place (item asked.entry))) }
     ensures bank { seen bank.new.lanes ≡ bank_then (make (S.Selector.model bank.old.make.selector) (F.NumberForm.model bank.old.make.form)) (seen bank.old.lanes) (entry (make (S.Selector.model bank.old.make.selector) (F.NumberForm.model bank.old.make.form)) (seen bank.old.lanes) control.old place (item asked.entry)) }
     ensures control { control.new ≡ control_then control.old (entry (make (S.Selector.model bank.old.make.selector) (F.NumberForm.model bank.old.make.form)) (seen bank.old.lanes) control.old place (item asked.entry)) }
     ensures make { bank.new.make ≡ bank.old.make }
@@ -38,55 +38,44 @@ pub(crate) fn answer<S: Selector, F: NumberForm>(
     work_off(bank, control, asked).unwrap_or_else(|fault| refused(fault, place))
 }
 
-/// Works off a record, and gives what it tells, or its fault.
+/// Works off a record, and gives the bytes of what it tells, or its fault.
 fn work_off<S: Selector, F: NumberForm>(
     bank: &mut Bank<S, F>,
     control: &mut Control,
     asked: Record<'_>,
-) -> Result<Values, Fault>
+) -> Result<ByteList<8>, Fault>
     requires { label_length (item asked) < 2 ^ 21 }
-    ensures says { (place : ℕ) → stated (λ told. told) place result ≡ numbers (entry (make (S.Selector.model bank.old.make.selector) (F.NumberForm.model bank.old.make.form)) (seen bank.old.lanes) control.old place (item asked.entry)) }
-    ensures short { IfOk result (λ told. length (bytes told) ≤ 8) }
+    ensures says { (place : ℕ) → stated (λ told. told) place result ≡ bytes (numbers (entry (make (S.Selector.model bank.old.make.selector) (F.NumberForm.model bank.old.make.form)) (seen bank.old.lanes) control.old place (item asked.entry))) }
     ensures bank { (place : ℕ) → seen bank.new.lanes ≡ bank_then (make (S.Selector.model bank.old.make.selector) (F.NumberForm.model bank.old.make.form)) (seen bank.old.lanes) (entry (make (S.Selector.model bank.old.make.selector) (F.NumberForm.model bank.old.make.form)) (seen bank.old.lanes) control.old place (item asked.entry)) }
     ensures control { (place : ℕ) → control.new ≡ control_then control.old (entry (make (S.Selector.model bank.old.make.selector) (F.NumberForm.model bank.old.make.form)) (seen bank.old.lanes) control.old place (item asked.entry)) }
     ensures make { bank.new.make ≡ bank.old.make }
 {
     match asked {
-        Record::Note(label) => Ok(Values::of(&[0, label.len() as u32])),
-        Record::Tick { time } => call(bank, Call::Tick { time }),
-        Record::Take { lane, ticks } => call(bank, Call::Take { lane, ticks }),
-        Record::Load { name, k, q, x } => ask(bank, name, Request::Load { k, q, x }),
-        Record::Load32 { name, word } => ask(bank, name, Request::Load32 { word }),
-        Record::Step { name, count } => ask(bank, name, Request::Step { count }),
-        Record::Look { name } => ask(bank, name, Request::Look),
+        Record::Note(label) => Ok(bytes_of(&[0, label.len() as u32])),
+        Record::Call(asked) => call(bank, control, asked),
         Record::Collect { name, mode } => collect(bank, control, name, Mode::try_from(mode)?),
-        Record::Give { name } => ask(bank, name, Request::Give),
-        Record::Marks => Ok(Values::of(&[0, control.marks().number()])),
+        Record::Marks => Ok(bytes_of(&[0, control.marks().number()])),
     }
 }
 
-/// Makes a call.
-fn call<S: Selector, F: NumberForm>(bank: &mut Bank<S, F>, call: Call) -> Result<Values, Fault>
-    ensures says { (place : ℕ) → stated (λ told. told) place result ≡ numbers (calling (make (S.Selector.model bank.old.make.selector) (F.NumberForm.model bank.old.make.form)) (seen bank.old.lanes) place call) }
-    ensures short { IfOk result (λ told. length (bytes told) ≤ 8) }
-    ensures leaves { seen bank.new.lanes ≡ after (make (S.Selector.model bank.old.make.selector) (F.NumberForm.model bank.old.make.form)) (seen bank.old.lanes) call }
-    ensures make { bank.new.make ≡ bank.old.make }
-{
-    Ok(shown(bank.answer(call)?))
-}
-
-/// Makes a call with a hold.
-fn ask<S: Selector, F: NumberForm>(
+/// Makes a call, a collect in a span of its mode.
+fn call<S: Selector, F: NumberForm>(
     bank: &mut Bank<S, F>,
-    name: Name,
-    request: Request,
-) -> Result<Values, Fault>
-    ensures says { (place : ℕ) → stated (λ told. told) place result ≡ numbers (calling (make (S.Selector.model bank.old.make.selector) (F.NumberForm.model bank.old.make.form)) (seen bank.old.lanes) place (Ask name request)) }
-    ensures short { IfOk result (λ told. length (bytes told) ≤ 8) }
-    ensures leaves { seen bank.new.lanes ≡ after (make (S.Selector.model bank.old.make.selector) (F.NumberForm.model bank.old.make.form)) (seen bank.old.lanes) (Ask name request) }
+    control: &mut Control,
+    call: Call,
+) -> Result<ByteList<8>, Fault>
+    ensures says { (place : ℕ) → stated (λ told. told) place result ≡ bytes (numbers (calling (make (S.Selector.model bank.old.make.selector) (F.NumberForm.model bank.old.make.form)) (seen bank.old.lanes) place call)) }
+    ensures leaves { seen bank.new.lanes ≡ after (make (S.Selector.model bank.old.make.selector) (F.NumberForm.model bank.old.make.form)) (seen bank.old.lanes) call }
+    ensures control { control.new ≡ hears call control.old (answer (make (S.Selector.model bank.old.make.selector) (F.NumberForm.model bank.old.make.form)) (seen bank.old.lanes) call) }
     ensures make { bank.new.make ≡ bank.old.make }
 {
-    call(bank, Call::Ask { name, request })
+    match call {
+        Call::Ask {
+            name,
+            request: Request::Collect { mode },
+        } => collect(bank, control, name, mode),
+        _ => Ok(shown(bank.answer(call)?)),
+    }
 }
 
 /// Collects in a span of the mode.
@@ -95,9 +84,8 @@ fn collect<S: Selector, F: NumberForm>(
     control: &mut Control,
     name: Name,
     mode: Mode,
-) -> Result<Values, Fault>
-    ensures says { (place : ℕ) → stated (λ told. told) place result ≡ numbers (calling (make (S.Selector.model bank.old.make.selector) (F.NumberForm.model bank.old.make.form)) (seen bank.old.lanes) place (Ask name (Collect mode))) }
-    ensures short { IfOk result (λ told. length (bytes told) ≤ 8) }
+) -> Result<ByteList<8>, Fault>
+    ensures says { (place : ℕ) → stated (λ told. told) place result ≡ bytes (numbers (calling (make (S.Selector.model bank.old.make.selector) (F.NumberForm.model bank.old.make.form)) (seen bank.old.lanes) place (Ask name (Collect mode)))) }
     ensures leaves { seen bank.new.lanes ≡ after (make (S.Selector.model bank.old.make.selector) (F.NumberForm.model bank.old.make.form)) (seen bank.old.lanes) (Ask name (Collect mode)) }
     ensures control { control.new ≡ heard control.old (answer (make (S.Selector.model bank.old.make.selector) (F.NumberForm.model bank.old.make.form)) (seen bank.old.lanes) (Ask name (Collect mode))) }
     ensures make { bank.new.make ≡ bank.old.make }
@@ -108,26 +96,37 @@ fn collect<S: Selector, F: NumberForm>(
     Ok(shown(Reply::Told(answer)))
 }
 
-/// Gives 0 and what a bank's reply tells.
-fn shown(reply: Reply) -> Values
+/// Gives the bytes of 0 and what a bank's reply tells.
+fn shown(reply: Reply) -> ByteList<8>
     requires { FewShown (Ok reply) }
-    ensures says { result ≡ shown reply }
-    ensures short { length (bytes result) ≤ 8 }
+    ensures { result ≡ bytes (shown reply) }
 {
     match reply {
-        Reply::Done => Values::of(&[0]),
-        Reply::Took { serial } => Values::of(&[0, serial]),
-        Reply::Stepped { digits } => Values::of(&[0, digits]),
-        Reply::Shown { made, s } => Values::of(&[0, made, s]),
-        Reply::Told(answer) => Values::of(&[0, answer.word, answer.marks.number()]),
+        Reply::Done => bytes_of(&[0]),
+        Reply::Took { serial } => bytes_of(&[0, serial]),
+        Reply::Stepped { digits } => bytes_of(&[0, digits]),
+        Reply::Shown { made, s } => bytes_of(&[0, made, s]),
+        Reply::Told(answer) => bytes_of(&[0, answer.word, answer.marks.number()]),
     }
 }
 
-/// Gives the answer of a fault with a place.
-pub(crate) fn refused(fault: Fault, place: u32) -> Values
+/// Gives the bytes of a fault's number and a place.
+pub(crate) fn refused(fault: Fault, place: u32) -> ByteList<8>
     requires { place < 2 ^ 21 }
-    ensures says { result ≡ refused fault place }
-    ensures short { length (bytes result) ≤ 8 }
+    ensures { result ≡ bytes (refused fault place) }
 {
-    Values::of(&[fault.number(), place])
+    bytes_of(&[fault.number(), place])
+}
+
+/// Gives the bytes of some numbers, one number after the other.
+#[tactic(auto, using(crate::proofs::Written::one_more_fits, crate::proofs::Written::one_more))]
+fn bytes_of(numbers: &[u32]) -> ByteList<8>
+    requires { length (bytes numbers.now) ≤ 8 }
+    ensures { result ≡ bytes numbers.now }
+{
+    let mut answer = ByteList::new();
+    for number in numbers {
+        answer.extend(encode(*number).as_slice());
+    }
+    answer
 }

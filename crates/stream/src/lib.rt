@@ -4,5 +4,4 @@
 mod answer;
 pub mod run;
 mod turn;
-mod values;
 mod writer;

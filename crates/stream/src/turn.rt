@@ -39,13 +39,13 @@ pub(crate) fn turn<S: Selector, F: NumberForm>(
     }
     match reader.next() {
         Ok(Some(found)) => {
-            let values = answer(bank, control, found.place as u32, found.record);
-            writer.values(values.as_slice());
+            let answer = answer(bank, control, found.place as u32, found.record);
+            writer.answer(answer.as_slice());
             ControlFlow::Continue(())
         }
         Ok(None) => ControlFlow::Break(None),
         Err(placed) => {
-            writer.values(refused(placed.fault, placed.place as u32).as_slice());
+            writer.answer(refused(placed.fault, placed.place as u32).as_slice());
             ControlFlow::Break(Some(placed))
         }
     }
