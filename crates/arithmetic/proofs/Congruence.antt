@@ -4,7 +4,7 @@ use borrow.Author.Differences.{ints, up, down}
 use Rattle.arithmetic.proofs.Ring.{ring, ring₂, ring₃, ring₄, v, #, ◌⊕◌, ◌⊖◌, ◌⊗◌, neg}
 use Rattle.arithmetic.specs.Residues.{Congruent, InSigned}
 
-abbrev modulus : ℤ
+abbrev pub modulus : ℤ
 modulus = pos (2 ^ 64)
 
 pub cong_refl : (a : ℤ) → Congruent a a

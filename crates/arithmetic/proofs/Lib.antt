@@ -2,4 +2,5 @@ pub mod Ring
 pub mod Congruence
 pub mod Words
 pub mod Squares
+pub mod Powers
 pub mod Cases

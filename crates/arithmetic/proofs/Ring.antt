@@ -1,5 +1,6 @@
 -- A solver for identities of the ring ℤ: `ring ρ e₁ e₂ refl : ⟦ e₁ ⟧ ρ ≡ ⟦ e₂ ⟧ ρ`, for expressions over the variables of the list ρ.
-use Rattle.std.proofs.Common.{◌≡◌, ℕ, zero, suc, ◌+◌, ◌*◌, Bool, true, false, List, [], ◌∷◌, ℤ, pos, negsuc, ◌+ℤ◌, ◌-ℤ◌, ◌*ℤ◌, neg_ℤ, sym, refl, ap, ◌∙◌, ap₂, arith}
+use Rattle.std.proofs.Common.{◌≡◌, ℕ, zero, suc, ◌+◌, ◌*◌, Bool, true, false, ◌&&◌, List, [], ◌∷◌, ℤ, pos, negsuc, ◌+ℤ◌, ◌-ℤ◌, ◌*ℤ◌, neg_ℤ, sym, refl, ap, ◌∙◌, ap₂, arith}
+use Rattle.std.proofs.lemmas.Bool.{and_parts}
 use lib.IntN.{+ℤ_idl, +ℤ_idr, +ℤ_assoc, +ℤ_comm, *ℤ_comm, *ℤ-zero, -ℤ-+ℤ_cancel}
 use borrow.Author.Differences.{up, down, same_in, sum_is_lem, product_is, ints}
 
@@ -151,27 +152,19 @@ is_nil (pos zero) = true
 is_nil (pos (suc n)) = false
 is_nil (negsuc n) = false
 
-abbrev pub and : Bool → Bool → Bool
-and true b = b
-and false b = false
-
 abbrev pub nil : Pol → Bool
 nil (con k) = is_nil k
-nil (hor p q) = and (nil p) (nil q)
+nil (hor p q) = nil p && nil q
 
 is_nil_is : (k : ℤ) → is_nil k ≡ true → k ≡ pos 0
 is_nil_is (pos zero) e = refl
 is_nil_is (pos (suc n)) e = cc
 is_nil_is (negsuc n) e = cc
 
-and_is : (a b : Bool) → and a b ≡ true → (a ≡ true) × (b ≡ true)
-and_is true b e = (refl, e)
-and_is false b e = (e, cc)
-
 nil_at : (t : Pol) (ρ : List ℤ) → nil t ≡ true → at t ρ ≡ pos 0
 nil_at (con k) ρ e = is_nil_is k e
 nil_at (hor p q) ρ e =
-    let h = and_is (nil p) (nil q) e in
+    let h = and_parts (nil p) (nil q) e in
     ap₂ ◌+ℤ◌ (nil_at p (tail ρ) h.0) (ap (λ u. head ρ *ℤ u) (nil_at q ρ h.1) ∙ *ℤ-zero (head ρ))
 
 pub ring : (ρ : List ℤ) (a b : Exp) → nil (norm (a ⊖ b)) ≡ true → ⟦ a ⟧ ρ ≡ ⟦ b ⟧ ρ

@@ -1,14 +1,12 @@
 -- The 64 bits of a number, their signed reading, and its cut at a place.
-use Rattle.std.proofs.Common.{◌≡◌, ℕ, zero, suc, ◌+◌, ◌-◌, ◌*◌, ◌/◌, ◌%◌, ◌^◌, ◌<◌, ◌≤◌, Bool, true, false, cond, ltb, [], ◌∷◌, ℤ, pos, negsuc, ◌+ℤ◌, ◌-ℤ◌, ◌*ℤ◌, neg_ℤ, ◌≤ℤ◌, ◌<ℤ◌, sym, refl, ap, ◌∙◌, subst, mod-lt, div-lt_iff_lt-mul, div-add-mod', arith, pow_pos, pow-add, w64, SFits, to_z, of_z, ltb-false, ltb-true}
+use Rattle.std.proofs.Common.{◌≡◌, ℕ, zero, suc, ◌+◌, ◌-◌, ◌*◌, ◌/◌, ◌%◌, ◌^◌, ◌<◌, ◌≤◌, Bool, true, false, cond, ltb, [], ◌∷◌, ℤ, pos, negsuc, ◌+ℤ◌, ◌-ℤ◌, ◌*ℤ◌, neg_ℤ, ◌≤ℤ◌, ◌<ℤ◌, sym, refl, ap, ◌∙◌, subst, mod-lt, div-lt_iff_lt-mul, div-add-mod', arith, pow_pos, w64, SFits, to_z, of_z, ltb-false, ltb-true}
 use lib.IntN.{*ℤ_comm}
 use mir.Val.{sel}
 use borrow.Author.Differences.{ints}
 use Rattle.arithmetic.specs.Residues.{Congruent, InSigned, word, signed, reading, floored}
 use Rattle.arithmetic.proofs.Ring.{ring, v, ◌⊕◌, ◌⊖◌, ◌⊗◌}
-use Rattle.arithmetic.proofs.Congruence.{cong_refl, cong_sym, cong_trans, cong_sum, cong_less, cong_times, cong_near}
-
-abbrev modulus : ℤ
-modulus = pos (2 ^ 64)
+use Rattle.arithmetic.proofs.Powers.{power_of_sum}
+use Rattle.arithmetic.proofs.Congruence.{modulus, cong_refl, cong_sym, cong_trans, cong_sum, cong_less, cong_times, cong_near}
 
 -- ---- a number's 64 bits
 
@@ -89,10 +87,10 @@ opposite m =
 
 module _ (u : ℕ) (small : u ≤ 60) where
   half : 2 ^ (63 - u) * 2 ^ u ≡ 2 ^ 63
-  half = let k : 63 - u + u ≡ 63 = omega arith in sym (pow-add 2 (63 - u) u) ∙ ap (λ k. 2 ^ k) k
+  half = sym (power_of_sum 63 (63 - u) u (omega arith))
 
   full : 2 ^ (64 - u) * 2 ^ u ≡ 2 ^ 64
-  full = let k : 64 - u + u ≡ 64 = omega arith in sym (pow-add 2 (64 - u) u) ∙ ap (λ k. 2 ^ k) k
+  full = sym (power_of_sum 64 (64 - u) u (omega arith))
 
   pub range : (z : ℤ) → InSigned z → (neg_ℤ (pos (2 ^ (63 - u))) ≤ℤ floored u z) × (floored u z <ℤ pos (2 ^ (63 - u)))
   range (pos a) s =

@@ -4,6 +4,7 @@ ghost use Rattle.exports.specs.Encoding.{packed_outcome, packed_answer, encoded}
 use crate::fault::Fault;
 use recurrence::registers::Outcome;
 use single::answer::Answer;
+use single::marks::Marks;
 
 /// What a task comes to, by two numbers: its value and its marks.
 #[derive(Clone, Copy, Drop, PartialEq, Eq, Debug)]
@@ -19,7 +20,7 @@ impl From<Outcome> for Packed {
     fn from(outcome: Outcome) -> Packed {
         Packed {
             value: outcome.f,
-            marks: if outcome.exact { 0 } else { 1 },
+            marks: Marks::from(outcome).number(),
         }
     }
 }

@@ -9,7 +9,7 @@ use number_form::sign::Sign;
 use number_form::words::Words;
 
 /// The dual-rail form of self-checking circuits: the number in the second word, and every bit inverted in the first.
-#[derive(Clone, Copy, Drop)]
+#[derive(Clone, Copy, Drop, PartialEq, Eq, Debug)]
 pub struct DualRail;
 
 impl NumberForm for DualRail {

@@ -6,7 +6,7 @@ use selection::radix2::Radix2;
 use selection::start::Start;
 
 /// Radix 2 with the start 3/2 for every operand.
-#[derive(Clone, Copy, Drop)]
+#[derive(Clone, Copy, Drop, PartialEq, Eq, Debug)]
 pub struct MiddleStart;
 
 impl Selector for MiddleStart {

@@ -40,6 +40,7 @@ impl LaneJob {
     }
 
     /// Makes one digit, where one is left to make.
+    // By two arms: one pattern for both over `&mut self` was tried, and its proof did not close.
     pub(crate) fn turn<S: Selector, F: NumberForm>(self, make: &Make<'_, S, F>) -> LaneJob
         ensures { seen_job result ≡ turned (models S.model F.model make.now) (seen_job self) }
     {
@@ -121,13 +122,8 @@ impl LaneJob {
 fn fixed_answer(outcome: Outcome) -> Answer
     ensures { result ≡ fixed_answer outcome }
 {
-    let marks = if outcome.exact {
-        Marks::NONE
-    } else {
-        Marks::INEXACT
-    };
     Answer {
         word: outcome.f,
-        marks,
+        marks: Marks::from(outcome),
     }
 }

@@ -10,7 +10,7 @@ use crate::words::{Words, majority};
 use arithmetic::{difference, signed_of, times, word_of};
 
 /// The borrow-save form: the number is the first word less the second.
-#[derive(Clone, Copy, Drop)]
+#[derive(Clone, Copy, Drop, PartialEq, Eq, Debug)]
 pub struct BorrowSave;
 
 impl NumberForm for BorrowSave {

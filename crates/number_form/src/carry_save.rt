@@ -9,7 +9,7 @@ use crate::words::{Words, majority};
 use arithmetic::{signed_of, times, word_of};
 
 /// The carry-save form: the number is the sum of the words.
-#[derive(Clone, Copy, Drop)]
+#[derive(Clone, Copy, Drop, PartialEq, Eq, Debug)]
 pub struct CarrySave;
 
 impl NumberForm for CarrySave {

@@ -10,7 +10,7 @@ use crate::words::Words;
 use arithmetic::{signed_of, times, word_of};
 
 /// The plain form: the number in the first word, and 0 in the second.
-#[derive(Clone, Copy, Drop)]
+#[derive(Clone, Copy, Drop, PartialEq, Eq, Debug)]
 pub struct Plain;
 
 impl NumberForm for Plain {

@@ -11,6 +11,7 @@ use Rattle.recurrence.specs.Root.{Exactness}
 use Rattle.recurrence.specs.Recurrence.{turns, first_registers}
 use Rattle.recurrence.specs.Stages.{Digits, Stage}
 use Rattle.recurrence.proofs.Finishing.{root_unique}
+use Rattle.single.specs.MarkSets.{marks_of}
 use Rattle.single.specs.declared.mode.Mode.{Mode}
 use Rattle.single.specs.declared.marks.Marks.{Marks}
 use Rattle.single.specs.declared.answer.Answer.{Answer}
@@ -25,7 +26,7 @@ use Rattle.protocol.specs.declared.call.Call.{Call}
 use Rattle.protocol.specs.declared.call.Call.TheVariants.{Ask}
 use Rattle.protocol.specs.declared.call.Reply.{Reply}
 use Rattle.protocol.specs.declared.call.Reply.TheVariants.{Stepped, Shown, Told}
-use Rattle.protocol.specs.Operands.{Make, Lawful, Operand, width, places, number, settled, digits, partial_result, marks_of, Right}
+use Rattle.protocol.specs.Operands.{Make, Lawful, Operand, width, places, number, settled, digits, partial_result, Right}
 use Rattle.protocol.specs.Operands.Operand.{fixed, single}
 use Rattle.protocol.specs.Operands.Right.{root, rounded}
 use Rattle.protocol.specs.History.{accepted, operand_of, loads, History, InForce, Loaded}

@@ -6,10 +6,11 @@ use Rattle.recurrence.specs.Recurrence.{State}
 use Rattle.recurrence.specs.Recurrence as recurrence
 use Rattle.single.specs.declared.mode.Mode.{Mode}
 use Rattle.single.specs.declared.answer.Answer.{Answer}
+use Rattle.single.specs.MarkSets.{marks_of}
 use Rattle.single.specs.Readings.{Reading, reading, special_answer, rounded}
 use Rattle.single.specs.Readings as readings
 use Rattle.single.specs.Readings.Reading.{special, positive}
-use Rattle.protocol.specs.Operands.{Make, Operand, marks_of}
+use Rattle.protocol.specs.Operands.{Make, Operand}
 use Rattle.protocol.specs.Operands.Operand.{fixed as fixed_operand, single as single_operand}
 
 -- A special single, settled with its answer; a fixed-point job of the recurrence; or a positive single with its exponent, and the job of the

@@ -10,7 +10,7 @@ use Rattle.recurrence.specs.Recurrence.{turns, first_registers}
 use Rattle.recurrence.specs.Root.{ReciprocalRoot, Exactness}
 use Rattle.single.specs.declared.mode.Mode.{Mode}
 use Rattle.single.specs.declared.marks.Marks.{Marks}
-use Rattle.single.specs.MarkSets.{no_marks, inexact_mark}
+use Rattle.single.specs.MarkSets.{marks_of}
 use Rattle.single.specs.Rsqrt.{Rsqrt}
 use Rattle.single.specs.Readings.{Reading, reading}
 use Rattle.single.specs.Readings as readings
@@ -82,10 +82,6 @@ abbrev pub partial_result : Make → Operand → ℕ → ℕ
 partial_result m o j =
     cond (settled o) (settled_partial o)
     (turns m.selector m.form j (first_registers m.selector m.form (width o) (places o) (number o))).partial.s
-
--- the marks of a fixed-point result
-abbrev pub marks_of : Bool → Marks
-marks_of exact = cond exact no_marks inexact_mark
 
 -- The word and the marks that are right for an operand: in every mode the largest f, marked inexact where f / 2 ^ Q is not the reciprocal root
 -- itself; for a single what IEEE 754 says of its mode.

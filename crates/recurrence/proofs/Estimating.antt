@@ -1,9 +1,10 @@
 -- Estimates of words that mean a number are estimates of the number.
-use Rattle.std.proofs.Common.{◌≡◌, ℕ, suc, ◌+◌, ◌-◌, ◌*◌, ◌^◌, ◌<◌, ◌≤◌, ℤ, pos, ◌+ℤ◌, ◌*ℤ◌, neg_ℤ, ◌≤ℤ◌, ◌<ℤ◌, sym, ap, ◌∙◌, mul-le-mul_right, arith, pow_mono, pow-add}
+use Rattle.std.proofs.Common.{◌≡◌, ℕ, suc, ◌+◌, ◌-◌, ◌*◌, ◌^◌, ◌<◌, ◌≤◌, ℤ, pos, ◌+ℤ◌, ◌*ℤ◌, neg_ℤ, ◌≤ℤ◌, ◌<ℤ◌, sym, mul-le-mul_right, arith, pow_mono}
 use borrow.Author.Differences.{ints, up, down}
 use Rattle.arithmetic.specs.Residues.{Congruent}
 use Rattle.arithmetic.specs.Estimates.{shortfall, Estimates}
 use Rattle.arithmetic.proofs.Ring.{add_*ℤ}
+use Rattle.arithmetic.proofs.Powers.{power_of_sum}
 use Rattle.arithmetic.proofs.Congruence.{cong_sym, cong_trans, cong_near, Size}
 use Rattle.number_form.specs.declared.words.Words.{Words}
 use Rattle.number_form.specs.Forms.{FormModel, Fit, LawfulForm}
@@ -31,7 +32,7 @@ estimates F L n t w z small fits means size = record { not_over = omega (arith, 
     range = L.estimate_range (n - t) w low_enough fits
 
     full : 2 ^ (63 - (n - t)) * U ≡ 2 ^ 63
-    full = let k : 63 - (n - t) + (n - t) ≡ 63 = omega arith in sym (pow-add 2 (63 - (n - t)) (n - t)) ∙ ap (λ k. 2 ^ k) k
+    full = sym (power_of_sum 63 (63 - (n - t)) (n - t) (omega arith))
 
     unit : U ≤ 2 ^ 60
     unit = pow_mono low_enough

@@ -3,8 +3,8 @@ use Rattle.std.proofs.Common.{◌≡◌, ℕ, zero, suc, ◌+◌, ◌-◌, ◌*�
 use borrow.Author.Differences.{ints, up, down}
 use borrow.Author.Tests.{eqb-false}
 use Rattle.std.proofs.lemmas.Bool.{cases_lt}
-use Rattle.arithmetic.proofs.Cases.{clash}
 use Rattle.arithmetic.specs.Estimates.{shortfall}
+use Rattle.arithmetic.proofs.Powers.{power_of_sum}
 use Rattle.arithmetic.proofs.Squares.{square, factor}
 use Rattle.number_form.specs.declared.sign.Sign.{Sign}
 use Rattle.number_form.specs.declared.sign.Sign.TheVariants.{Negative, NotNegative}
@@ -71,8 +71,7 @@ module _ (S : SelectorModel) (F : FormModel) (LS : LawfulSelector shortfall S) (
 
 quarter_whole : (K Q : ℕ) → 2 ≤ K → 2 ^ (K + 2 * Q) ≡ 2 ^ (K - 2) * (2 ^ (Q + 1) * 2 ^ (Q + 1))
 quarter_whole K Q h =
-    let e : K + 2 * Q ≡ K - 2 + (Q + 1 + (Q + 1)) = omega arith in
-    ap (λ k. 2 ^ k) e ∙ pow-add 2 (K - 2) (Q + 1 + (Q + 1)) ∙ ap (λ k. 2 ^ (K - 2) * k) (pow-add 2 (Q + 1) (Q + 1))
+    power_of_sum (K + 2 * Q) (K - 2) (Q + 1 + (Q + 1)) (omega arith) ∙ ap (λ k. 2 ^ (K - 2) * k) (pow-add 2 (Q + 1) (Q + 1))
 
 quarter_root : (K Q : ℕ) → 2 ≤ K → ReciprocalRoot K Q (2 ^ (K - 2)) (2 ^ (Q + 1))
 quarter_root K Q h =
@@ -102,10 +101,7 @@ same_power : (m n : ℕ) → 2 ^ m ≡ 2 ^ n → m ≡ n
 same_power m n e = omega (arith, apart m n e, apart n m (sym e))
   where
     apart : (m n : ℕ) → 2 ^ m ≡ 2 ^ n → suc m ≤ n → ⊥
-    apart m n e h = omega (arith, pow_mono {i = suc m} {j = n} h, pow-add 2 1 m, pow_pos m, one_more)
-      where
-        one_more : 2 ^ suc m ≡ 2 ^ (1 + m)
-        one_more = ap (λ k. 2 ^ k) (omega arith)
+    apart m n e h = omega (arith, pow_mono {i = suc m} {j = n} h, pow_pos m, power_of_sum (suc m) 1 m (omega arith))
 
 never_exact : (K Q x f : ℕ) → 2 ≤ K → 2 ^ (K - 2) < x → x < 2 ^ K → x * (f * f) ≡ 2 ^ (K + 2 * Q) → ⊥
 never_exact K Q x f h low high e =
@@ -154,9 +150,9 @@ module _ (S : SelectorModel) (F : FormModel) (LS : LawfulSelector shortfall S) (
           let is : x ≡ 2 ^ (K - 2) = eqb-true x (2 ^ (K - 2)) e in
           record {
             equal = λ _. rw (square (2 ^ (Q + 1)), is) (sym (quarter_whole K Q (omega (arith, sized.width.0))));
-            below = λ f. clash (cc);
+            below = λ f. cc;
           }
       go false e =
           let r = root_by_digits e in
           let not_equal : x * (by_digits.f * by_digits.f) ≡ 2 ^ (K + 2 * Q) → ⊥ = never_exact K Q x by_digits.f (omega (arith, sized.width.0)) (above e) range.below_one in
-          record { equal = λ f. clash (cc); below = λ _. rw (square by_digits.f) (omega (arith, not_equal, rw (square by_digits.f) at r.fits)) }
+          record { equal = λ f. cc; below = λ _. rw (square by_digits.f) (omega (arith, not_equal, rw (square by_digits.f) at r.fits)) }

@@ -1,13 +1,14 @@
 -- The registers keep their meaning, digit by digit.
-use Rattle.std.proofs.Common.{◌≡◌, ℕ, zero, suc, ◌+◌, ◌-◌, ◌*◌, ◌/◌, ◌%◌, ◌^◌, ◌<◌, ◌≤◌, false, cond, ltb, [], ◌∷◌, length, ℤ, pos, negsuc, ◌+ℤ◌, ◌-ℤ◌, ◌*ℤ◌, neg_ℤ, nat_abs, sym, refl, ap, ◌∙◌, subst, ap₂, mul-le-mul_right, mul_assoc, mul-le-mul, mul-le-mul_left, mul-zero, div-add-mod', arith, pow_pos, pow_mono, pow-add}
+use Rattle.std.proofs.Common.{◌≡◌, ℕ, zero, suc, ◌+◌, ◌-◌, ◌*◌, ◌/◌, ◌%◌, ◌^◌, ◌<◌, ◌≤◌, false, cond, [], ◌∷◌, length, ℤ, pos, negsuc, ◌+ℤ◌, ◌-ℤ◌, ◌*ℤ◌, neg_ℤ, nat_abs, sym, refl, ap, ◌∙◌, subst, ap₂, mul-le-mul_right, mul_assoc, mul-le-mul, mul-le-mul_left, mul-zero, div-add-mod', arith, pow_pos, pow_mono}
 use native.Mathlib.Nat.{mul-div-le, mul-mod_left}
 use lib.IntN.{*ℤ_comm}
 use borrow.Author.Differences.{ints}
-use Rattle.std.proofs.lemmas.Bool.Decides.{nat_tests}
+use Rattle.std.proofs.lemmas.Bool.{le-ltb}
 use Rattle.arithmetic.specs.Residues.{Congruent, InSigned}
 use Rattle.arithmetic.specs.Estimates.{shortfall, Estimates}
 use Rattle.arithmetic.proofs.Ring.{ring, ring₃, ring₄, v, #, ◌⊕◌, ◌⊖◌, ◌⊗◌, neg}
 use Rattle.arithmetic.proofs.Congruence.{cong_refl, cong_trans, cong_sum, cong_times, Size, signed}
+use Rattle.arithmetic.proofs.Powers.{power_of_sum}
 use Rattle.arithmetic.proofs.Squares.{square}
 use Rattle.number_form.specs.declared.words.Words.{Words}
 use Rattle.number_form.specs.Forms.{FormModel, Fit, LawfulForm}
@@ -125,13 +126,10 @@ after S F K Q x p u o t =
     let q = digit_at S F (K + Q) u o in
     at K Q x p (reduced F q (pos (x * 2 ^ p)) o (F.shift S.bits u)) (F.add (terms q (pos (x * 2 ^ p))).once o) (appended (radix S) q p t)
 
-pub not_less : (m n : ℕ) → n ≤ m → ltb m n ≡ false
-not_less m n h = grind (arith, nat_tests)
-
 -- a turn with room for a digit makes it at its place
 turn_is : (S : SelectorModel) (F : FormModel) (K Q x p p' : ℕ) (u o : Words) (t : Partial) → S.bits ≤ p → p - S.bits ≡ p' → turned S F (at K Q x p u o t) ≡ after S F K Q x p' u o t
 turn_is S F K Q x p p' u o t room e =
-    let more : complete S (at K Q x p u o t) ≡ false = not_less p S.bits room in
+    let more : complete S (at K Q x p u o t) ≡ false = le-ltb p S.bits room in
     ap (λ c. cond c (at K Q x p u o t) (turned_by S F (digit_at S F (K + Q) u o) (at K Q x p u o t))) more ∙ ap (λ k. after S F K Q x k u o t) e
 
 -- ---- one digit
@@ -249,7 +247,7 @@ module _ (S : SelectorModel) (F : FormModel) (LS : LawfulSelector shortfall S) (
           let b = S.bits in
           let h = halves (S.start K x) in
           let k : Q - 1 ≡ b - 1 + (Q - b * suc j) = omega (arith, bits_pos S LS, fits_next, ap (λ t. b * t) e, mul-zero b) in
-          let r : 2 ^ (Q - 1) ≡ 2 ^ (b - 1) * 2 ^ (Q - b * suc j) = ap (λ t. 2 ^ t) k ∙ pow-add 2 (b - 1) (Q - b * suc j) in
+          let r : 2 ^ (Q - 1) ≡ 2 ^ (b - 1) * 2 ^ (Q - b * suc j) = power_of_sum (Q - 1) (b - 1) (Q - b * suc j) k in
           (h * 2 ^ (b - 1), f.start_is e ∙ ap (λ t. h * t) r ∙ sym (mul_assoc h (2 ^ (b - 1)) (2 ^ (Q - b * suc j))))
       go (suc i) e =
           let y = 2 ^ (Q - S.bits * j) in
@@ -353,7 +351,7 @@ module _ (S : SelectorModel) (F : FormModel) (LS : LawfulSelector shortfall S) (
   bound = LS.start_contained K Q x sized range above
 
   half : 2 ^ (Q - 1) ≡ 2 * 2 ^ (Q - 2)
-  half = let k : Q - 1 ≡ 1 + (Q - 2) = omega (arith, sized.places.0) in ap (λ t. 2 ^ t) k ∙ pow-add 2 1 (Q - 2)
+  half = power_of_sum (Q - 1) 1 (Q - 2) (omega (arith, sized.places.0))
 
   balance₀ : Residual S.bits K Q x 0 (started S K Q x) w₀
   balance₀ = record {
@@ -387,7 +385,7 @@ module _ (S : SelectorModel) (F : FormModel) (LS : LawfulSelector shortfall S) (
       }
     where
       whole_place : 2 ^ Q ≡ 2 * 2 ^ (Q - 1)
-      whole_place = let k : Q ≡ 1 + (Q - 1) = omega (arith, sized.places.0) in ap (λ t. 2 ^ t) k ∙ pow-add 2 1 (Q - 1)
+      whole_place = power_of_sum Q 1 (Q - 1) (omega (arith, sized.places.0))
 
   -- ---- every stage
 

@@ -1,5 +1,6 @@
 -- Sizes at a job's start.
-use Rattle.std.proofs.Common.{◌≡◌, ℕ, ◌+◌, ◌-◌, ◌*◌, ◌^◌, ◌<◌, ◌≤◌, ap, ◌∙◌, mul-le-mul_right, mul-le-mul, arith, pow_mono, pow-add}
+use Rattle.std.proofs.Common.{◌≡◌, ℕ, ◌+◌, ◌-◌, ◌*◌, ◌^◌, ◌<◌, ◌≤◌, mul-le-mul_right, mul-le-mul, arith, pow_mono, pow-add}
+use Rattle.arithmetic.proofs.Powers.{power_of_sum}
 use Rattle.selection.specs.declared.start.Start.{Start}
 use Rattle.selection.specs.declared.start.Start.TheVariants.{One, ThreeHalves, Two}
 use Rattle.selection.specs.Starts.{halves}
@@ -32,8 +33,7 @@ pub record InPartial (q s : ℕ) : Type 0 where
 
 pub start_size : (q h : ℕ) → 2 ≤ q → q ≤ 28 → 2 ≤ h → h ≤ 4 → InPartial q (h * 2 ^ (q - 1))
 start_size q h l m low high =
-    let e : q ≡ 1 + (q - 1) = omega arith in
-    let one : 2 ^ q ≡ 2 * 2 ^ (q - 1) = ap (λ k. 2 ^ k) e ∙ pow-add 2 1 (q - 1) in
+    let one : 2 ^ q ≡ 2 * 2 ^ (q - 1) = power_of_sum q 1 (q - 1) (omega arith) in
     let two : 2 ^ (q + 2) ≡ 2 ^ q * 4 = pow-add 2 q 2 in
     let small : 2 ^ q ≤ 2 ^ 28 = pow_mono {i = q} {j = 28} m in
     let up = mul-le-mul_right (2 ^ (q - 1)) low in

@@ -13,7 +13,7 @@ use Rattle.recurrence.specs.Recurrence.{chosen_from, chosen, terms, reduced_by, 
 pub assembled :
     (S : SelectorModel) (F : FormModel) (c : Registers) {b r f : ℕ} {w res prod : Words} {h : Choice} {q t t' o' : ℤ} {y : Terms} {e : Partial} →
     q ≡ h.digit → t' ≡ t → o' ≡ y.once →
-    b ≡ S.bits → r ≡ 2 ^ b → f ≡ c.factor → w ≡ F.shift b c.residual → h ≡ chosen_from S F (c.k + c.q) w c.product →
+    b ≡ S.bits → r ≡ 2 ^ S.bits → f ≡ c.factor → w ≡ F.shift S.bits c.residual → h ≡ chosen_from S F (c.k + c.q) w c.product →
     t ≡ pos (f * 2 ^ (c.place - b)) → y ≡ terms q t' → res ≡ reduced_by F y c.product w →
     prod ≡ F.add o' c.product → e ≡ appended r q (c.place - b) c.partial →
     complete S c ≡ false →
@@ -21,7 +21,7 @@ pub assembled :
 assembled S F c e1 e2 e3 e4 e5 e6 e7 e8 e9 e10 e11 e12 e13 more = rw more (cc)
 
 pub chosen_if :
-    (S : SelectorModel) (F : FormModel) (c : Registers) {b : ℕ} {w : Words} {h : Choice} →
-    b ≡ S.bits → w ≡ F.shift b c.residual → h ≡ chosen_from S F (c.k + c.q) w c.product → complete S c ≡ false →
+    (S : SelectorModel) (F : FormModel) (c : Registers) {w : Words} {h : Choice} →
+    w ≡ F.shift S.bits c.residual → h ≡ chosen_from S F (c.k + c.q) w c.product → complete S c ≡ false →
     ◌≡◌ {A = Option Choice} (Some h) (cond (complete S c) None (Some (chosen S F c)))
-chosen_if S F c e1 e2 e3 more = rw more (cc)
+chosen_if S F c e1 e2 more = rw more (cc)

@@ -19,15 +19,14 @@ impl Running {
         ensures tells { result ≡ (if complete (S.Selector.model make.now.selector.now) self.old.registers then None else Some (chosen (S.Selector.model make.now.selector.now) (F.NumberForm.model make.now.form.now) self.old.registers)) }
         ensures after { self.new.registers ≡ turned (S.Selector.model make.now.selector.now) (F.NumberForm.model make.now.form.now) self.old.registers }
     {
-        make.selector.lawful();
-        let bits = S::B;
-        let radix = radix_of(bits);
+        let bits = bits_of(make.selector);
+        let radix = radix_of(make.selector);
         let before = self.registers;
         if before.place < bits {
             return None;
         }
         let place = before.place - bits;
-        let shifted = make.form.shift(before.residual, shift_by(bits));
+        let shifted = make.form.shift(before.residual, shift_by(make.selector));
         let choice = pick(make, before.k + before.q, shifted, before.product);
         let terms = Terms::of(choice.digit, at_place(u64::from(before.factor), place));
         let residual = reduce(make.form, terms, before.product, shifted);
@@ -48,16 +47,14 @@ impl Running {
         ensures is { result ≡ (self.now.registers.q - self.now.registers.place) / (S.Selector.model selector.now).bits }
         ensures few { result ≤ 28 }
     {
-        selector.lawful();
-        (self.registers.q - self.registers.place) / S::B
+        (self.registers.q - self.registers.place) / bits_of(selector)
     }
 
     /// Counts the digits left to make.
     pub(crate) fn left<S: Selector>(&self, selector: &S) -> u32
         ensures { result ≡ self.now.registers.place / (S.Selector.model selector.now).bits }
     {
-        selector.lawful();
-        self.registers.place / S::B
+        self.registers.place / bits_of(selector)
     }
 
     /// Reads the result off the registers: s, or s - 1 where the residual is negative.
@@ -110,20 +107,31 @@ fn reduce<F: NumberForm>(form: &F, terms: Terms, product: Words, shifted: Words)
     form.add(less_multiple, terms.square)
 }
 
-/// Gives the shift by a digit's bits.
-fn shift_by(bits: u32) -> Shift
-    requires { (bits ≡ 1) ⊎ (bits ≡ 2) }
-    ensures { places result ≡ bits }
+/// Gives the bits of a selector's digit.
+fn bits_of<S: Selector>(selector: &S) -> u32
+    ensures is { result ≡ (S.Selector.model selector.now).bits }
+    ensures few { (result ≡ 1) ⊎ (result ≡ 2) }
 {
-    if bits == 1 { Shift::One } else { Shift::Two }
+    selector.lawful();
+    S::B
 }
 
-/// Gives the radix of digits of one or two bits.
-fn radix_of(bits: u32) -> u32
-    requires { (bits ≡ 1) ⊎ (bits ≡ 2) }
-    ensures is { result ≡ 2 ^ bits }
+/// Gives the shift by a digit's bits.
+fn shift_by<S: Selector>(selector: &S) -> Shift
+    ensures { places result ≡ (S.Selector.model selector.now).bits }
+{
+    if bits_of(selector) == 1 {
+        Shift::One
+    } else {
+        Shift::Two
+    }
+}
+
+/// Gives the radix of a selector.
+fn radix_of<S: Selector>(selector: &S) -> u32
+    ensures is { result ≡ 2 ^ (S.Selector.model selector.now).bits }
     ensures least { 2 ≤ result }
     ensures most { result ≤ 4 }
 {
-    1 << bits
+    1 << bits_of(selector)
 }

@@ -27,6 +27,8 @@ pub fn work<S: Selector, F: NumberForm>(make: &Make<'_, S, F>, operand: Operand)
     make_all_turns(make, operand)
 }
 
+/// Works an operand off by all its digits.
+// On the registers, and not through `Job`: the C function calls it, and no enum is taken apart at each digit.
 fn make_all_turns<S: Selector, F: NumberForm>(make: &Make<'_, S, F>, operand: Operand) -> Outcome
     ensures { result ≡ worked (S.Selector.model make.now.selector.now) (F.NumberForm.model make.now.form.now) operand.k operand.q operand.x }
 {

@@ -10,7 +10,7 @@ use Rattle.recurrence.specs.Recurrence.{chosen, turned, turns, first_registers, 
 use Rattle.recurrence.specs.Root.{ReciprocalRoot}
 use Rattle.single.specs.declared.mode.Mode.TheVariants.{Nearest, Up}
 use Rattle.single.specs.declared.answer.Answer.{Answer}
-use Rattle.single.specs.MarkSets.{no_marks, inexact_mark}
+use Rattle.single.specs.MarkSets.{marks_of}
 use Rattle.single.specs.Rsqrt.{Rsqrt}
 use Rattle.single.specs.Readings.{reading, told}
 use Rattle.reference_rows.specs.declared.FixedRow.{FixedRow}
@@ -48,7 +48,7 @@ EachRight (r ∷ rs) = RowRight r × EachRight rs
 
 -- The row's word and marks are those of IEEE 754's rSqrt, and both radices come to them over plain numbers.
 abbrev pub row_answer : SingleRow → Answer
-row_answer r = record { word = r.result; marks = cond r.exact no_marks inexact_mark }
+row_answer r = record { word = r.result; marks = marks_of r.exact }
 
 pub record SingleRight (r : SingleRow) : Type 0 where
   pub root : Rsqrt r.mode r.operand (row_answer r).word (row_answer r).marks

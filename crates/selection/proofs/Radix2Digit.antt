@@ -1,5 +1,6 @@
 -- One digit of radix 2 keeps the containment bound, at the scale of the last digit: S = s / 2 ^ j.
 use Rattle.std.proofs.Common.{◌≡◌, ℕ, zero, suc, ◌+◌, ◌-◌, ◌*◌, ◌^◌, ◌<◌, ◌≤◌, Bool, true, false, cond, ℤ, pos, negsuc, ◌+ℤ◌, ◌-ℤ◌, ◌*ℤ◌, ◌≤ℤ◌, ◌<ℤ◌, refl, mul-le-mul_right, mul-le-mul, mul-le-mul_left, mul-pos, pow-suc, arith, pow_pos}
+use Rattle.std.proofs.lemmas.Nat.{mul-pow}
 use lib.Signed.{le_z}
 use borrow.Author.Differences.{ints, le_out, lt_out}
 use Rattle.arithmetic.proofs.Ring.{add_*ℤ}
@@ -42,10 +43,6 @@ zero_low P R x t p h g e = omega (arith, mul-le-mul_right R h, mul-le-mul_left x
 zero_high : (P R x t : ℕ) → 0 < x → P ≤ 4 * x → R ≤ t + 1 → 8 * (P * R * R) < 8 * (x * ((t + 1) * (t + 1))) + 2 * (P * R) → 4 * (P * R * R) < (2 * t + 3) * (2 * t + 3) * x
 zero_high P R x t p h g e = omega (arith, mul-le-mul_right R h, mul-le-mul_left x g)
 
-pub four_pow : (j : ℕ) → 4 ^ j ≡ 2 ^ j * 2 ^ j
-four_pow zero = refl
-four_pow (suc j) = rw (pow-suc 4 j, pow-suc 2 j) (omega (arith, four_pow j))
-
 -- what the estimate says of 8 (N - M), where D is 2^K 2^j
 module _ (N M D : ℕ) (w : ℤ) (D_pos : 1 ≤ D) (below : (w *ℤ pos D) ≤ℤ (pos 8 *ℤ (pos N -ℤ pos M))) (near : (pos 8 *ℤ (pos N -ℤ pos M)) <ℤ (w *ℤ pos D +ℤ pos 2 *ℤ pos D)) where
   when_up : up_from ≤ℤ w → M < N
@@ -59,7 +56,7 @@ module _ (N M D : ℕ) (w : ℤ) (D_pos : 1 ≤ D) (below : (w *ℤ pos D) ≤�
 
 -- 2^K 4^j, by powers of 2
 scale : (K j : ℕ) → 2 ^ K * 4 ^ j ≡ 2 ^ K * 2 ^ j * 2 ^ j
-scale K j = rw (four_pow j) (omega arith)
+scale K j = rw (mul-pow 2 2 j) (omega arith)
 
 scale_suc : (K j : ℕ) → 2 ^ K * 4 ^ suc j ≡ 4 * (2 ^ K * 2 ^ j * 2 ^ j)
 scale_suc K j = rw (pow-suc 4 j) (omega (arith, scale K j))

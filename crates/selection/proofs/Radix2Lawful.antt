@@ -1,28 +1,30 @@
 -- Radix 2 is a lawful selector.
 use Rattle.std.proofs.Common.{◌≡◌, ℕ, zero, suc, ◌+◌, ◌-◌, ◌*◌, ◌/◌, ◌%◌, ◌^◌, ◌<◌, ◌≤◌, Bool, true, false, cond, ◌||◌, ℤ, pos, negsuc, ◌+ℤ◌, ◌*ℤ◌, neg_ℤ, ◌≤ℤ◌, sym, refl, ap, ◌∙◌, inl, div-add-mod', arith, pow_pos, pow-add}
 use lib.Signed.{le_z}
+use Rattle.std.proofs.lemmas.Nat.{mul-pow}
 use borrow.Author.Differences.{ints, up, down}
 use Rattle.arithmetic.specs.Estimates.{shortfall, Estimates}
 use Rattle.arithmetic.proofs.Ring.{add_*ℤ}
+use Rattle.arithmetic.proofs.Powers.{power_of_sum}
 use Rattle.selection.specs.Operands.{Sized, InRange, Contained}
 use Rattle.selection.specs.Selectors.{Residual, LawfulSelector, Contains, beyond, guarded}
 use Rattle.selection.specs.Radix2.{down_from, up_from, choice_2, radix_2}
 use Rattle.selection.proofs.Range.{plain, above_quarter, whole, split, next_place, Sides, opens, shuts, balanced}
 use Rattle.selection.proofs.Scale.{shrink, grow, estimate_below, estimate_near, natural, moved, rest_is}
 use Rattle.selection.proofs.Guard.{guard_still, guarded_least, guarded_most}
-use Rattle.selection.proofs.Radix2Digit.{Bound2, Estimate2, digit2, step2, four_pow}
+use Rattle.selection.proofs.Radix2Digit.{Bound2, Estimate2, digit2, step2}
 
 -- ---- the bound at the scale of the digit
 
 to_bound : (K j x y : ℕ) → Sides 1 1 1 x y (2 ^ K * (2 ^ j * 2 ^ j)) → Bound2 K j x y
 to_bound K j x y b =
     let e : y - 1 ≡ b.gap = omega (arith, b.over) in
-    record { one = omega (arith, b.over); low = rw (e, four_pow j) (omega (arith, b.low)); high = rw (four_pow j) (omega (arith, b.high)) }
+    record { one = omega (arith, b.over); low = rw (e, mul-pow 2 2 j) (omega (arith, b.low)); high = rw (mul-pow 2 2 j) (omega (arith, b.high)) }
 
 from_bound : (K j x y : ℕ) → Bound2 K j x y → Sides 1 1 1 x y (2 ^ K * (2 ^ j * 2 ^ j))
 from_bound K j x y b =
-    let l = rw (four_pow j) at b.low in
-    let h = rw (four_pow j) at b.high in
+    let l = rw (mul-pow 2 2 j) at b.low in
+    let h = rw (mul-pow 2 2 j) at b.high in
     record { gap = y - 1; over = omega (arith, b.one); low = omega arith; high = omega arith }
 
 -- 2 ^ (K + 2 * Q) by the places made and those to come
@@ -40,25 +42,27 @@ estimate : (K Q x j y : ℕ) (w E : ℤ) → 6 ≤ K + Q → 1 * j ≤ Q → 1 *
     Estimates shortfall (K + Q) 2 E (pos (2 ^ 1) *ℤ w) → Estimate2 K j x y E
 estimate K Q x j y w E large room is e =
     let i : 1 * j ≡ j = omega arith in
-    let k : K + Q ≡ 2 + (K + Q - 2) = omega arith in
     let s : 2 ^ j * 2 ^ (Q - 1 * j) ≡ 2 ^ Q = ap (λ t. 2 ^ t * 2 ^ (Q - 1 * j)) (sym i) ∙ split 1 Q j room in
-    let u : 4 * 2 ^ (K + Q - 2) ≡ 2 ^ K * 2 ^ j * 2 ^ (Q - 1 * j) = sym (pow-add 2 2 (K + Q - 2)) ∙ ap (λ t. 2 ^ t) (sym k) ∙ pow-add 2 K Q ∙ rw (← s) (omega arith) in
+    let u : 4 * 2 ^ (K + Q - 2) ≡ 2 ^ K * 2 ^ j * 2 ^ (Q - 1 * j) = sym (power_of_sum (K + Q) 2 (K + Q - 2) (omega arith)) ∙ pow-add 2 K Q ∙ rw (← s) (omega arith) in
     let below = estimate_below E w 1 2 4 (2 ^ (K + Q - 2)) (2 ^ K * 2 ^ j) (2 ^ (Q - 1 * j)) (2 ^ K * (2 ^ j * 2 ^ j)) (x * (y * y)) (pow_pos (Q - 1 * j)) (omega arith) (omega arith) u is e.not_over e.not_far in
     let near = estimate_near E w 1 2 4 (2 ^ (K + Q - 2)) (2 ^ K * 2 ^ j) (2 ^ (Q - 1 * j)) (2 ^ K * (2 ^ j * 2 ^ j)) (x * (y * y)) (pow_pos (Q - 1 * j)) (omega arith) (omega arith) u is e.not_over e.not_far in
-    record { below = rw (four_pow j) (omega (arith, ints, below)); near = rw (four_pow j, add_*ℤ) (omega (arith, ints, near)) }
+    record { below = rw (mul-pow 2 2 j) (omega (arith, ints, below)); near = rw (mul-pow 2 2 j, add_*ℤ) (omega (arith, ints, near)) }
 
 -- ---- the laws
 
+-- before the first digit, the last place of Q in halves
+halved : (K Q : ℕ) → Sized K Q → 2 * 2 ^ (Q - 1) ≡ 1 * 2 ^ (Q - 1 * 0)
+halved K Q sized = omega (arith, power_of_sum (Q - 1 * 0) 1 (Q - 1) (omega (arith, sized.places.0)))
+
 start : (K Q x : ℕ) → Sized K Q → InRange K x → 2 ^ (K - 2) < x → Contained 1 1 K Q x 0 (2 * 2 ^ (Q - 1))
 start K Q x sized range above =
-    let i : Q - 1 * 0 ≡ 1 + (Q - 1) = omega (arith, sized.places.0) in
-    let s : 2 * 2 ^ (Q - 1) ≡ 1 * 2 ^ (Q - 1 * 0) = rw i (omega (arith, pow-add 2 1 (Q - 1))) in
+    let s : 2 * 2 ^ (Q - 1) ≡ 1 * 2 ^ (Q - 1 * 0) = halved K Q sized in
     let one : Sides 1 1 1 x 1 (2 ^ K) = record { gap = 0; over = refl; low = omega (arith, pow_pos K); high = omega (arith, above_quarter K Q x sized above) } in
     let z : 2 ^ (K + 2 * Q) ≡ 2 ^ K * (2 ^ (Q - 1 * 0) * 2 ^ (Q - 1 * 0)) = whole_at K Q 0 (omega arith) ∙ omega arith in
     shuts 1 1 K Q x 0 (2 * 2 ^ (Q - 1)) (rw (s, z) (grow 1 1 (2 ^ (Q - 1 * 0)) x 1 (2 ^ K) (pow_pos (Q - 1 * 0)) one))
 
 multiple : (K Q x j s : ℕ) → Sized K Q → (j ≡ 0 → s ≡ 2 * 2 ^ (Q - 1)) → (0 < j → s % 2 ^ (Q - 1 * j) ≡ 0) → (y : ℕ) × (s ≡ y * 2 ^ (Q - 1 * j))
-multiple K Q x zero s sized f g = (1, f refl ∙ (let i : Q - 1 * 0 ≡ 1 + (Q - 1) = omega (arith, sized.places.0) in rw i (omega (arith, pow-add 2 1 (Q - 1)))))
+multiple K Q x zero s sized f g = (1, f refl ∙ halved K Q sized)
 multiple K Q x (suc j) s sized f g = let z : s % 2 ^ (Q - 1 * suc j) ≡ 0 = g (omega arith) in (s / 2 ^ (Q - 1 * suc j), omega (arith, div-add-mod' s (2 ^ (Q - 1 * suc j))))
 
 choice_least : (w p : ℤ) → neg_ℤ (pos 1) ≤ℤ choice_2 w p

@@ -1,5 +1,6 @@
 -- One digit of radix 4, from the second on, keeps the containment bound, at the scale of the last digit: S = s / 4 ^ j.
 use Rattle.std.proofs.Common.{◌≡◌, ℕ, zero, suc, ◌+◌, ◌-◌, ◌*◌, ◌^◌, ◌<◌, ◌≤◌, Bool, true, false, cond, ℤ, pos, negsuc, ◌+ℤ◌, ◌-ℤ◌, ◌*ℤ◌, ◌≤ℤ◌, ◌<ℤ◌, refl, mul-le-mul_right, mul-le-mul, mul-le-mul_left, pow-suc, arith, lit≤}
+use Rattle.std.proofs.lemmas.Nat.{mul-pow}
 use native.Mathlib.Nat.{le_dest, one-le-pow}
 use lib.Signed.{le_z}
 use borrow.Author.Differences.{ints, up, down}
@@ -101,12 +102,8 @@ module _ (p : ℕ) (w : ℤ) where
   under_minus_one : le_z (minus_one_from (pos p)) w ≡ false → 4 * up w + 3 * p + 4 ≤ 4 * down w
   under_minus_one h = omega (arith, ints)
 
-pub sixteen_pow : (j : ℕ) → 16 ^ j ≡ 4 ^ j * 4 ^ j
-sixteen_pow zero = refl
-sixteen_pow (suc j) = rw (pow-suc 16 j, pow-suc 4 j) (omega (arith, sixteen_pow j))
-
 scale : (K j : ℕ) → 2 ^ K * 16 ^ j ≡ 2 ^ K * 4 ^ j * 4 ^ j
-scale K j = rw (sixteen_pow j) (omega arith)
+scale K j = rw (mul-pow 4 4 j) (omega arith)
 
 scale_suc : (K j : ℕ) → 9 * (2 ^ K * 16 ^ suc j) ≡ 144 * (2 ^ K * 16 ^ j)
 scale_suc K j = rw (pow-suc 16 j) (omega arith)

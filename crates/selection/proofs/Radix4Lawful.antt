@@ -1,9 +1,11 @@
 -- Radix 4 is a lawful selector.
 use Rattle.std.proofs.Common.{◌≡◌, ℕ, zero, suc, ◌+◌, ◌-◌, ◌*◌, ◌/◌, ◌%◌, ◌^◌, ◌<◌, ◌≤◌, Bool, true, false, cond, ◌||◌, ℤ, pos, negsuc, ◌+ℤ◌, ◌*ℤ◌, neg_ℤ, ◌≤ℤ◌, ◌<ℤ◌, sym, refl, ap, ◌∙◌, subst, inr, mul-le-mul_right, mul-le-mul_left, div-add-mod', arith, pow_pos, pow-add}
+use Rattle.std.proofs.lemmas.Nat.{mul-pow}
 use lib.Signed.{le_z}
 use borrow.Author.Differences.{ints, up, down}
 use Rattle.arithmetic.specs.Estimates.{shortfall, Estimates}
 use Rattle.arithmetic.proofs.Ring.{add_*ℤ}
+use Rattle.arithmetic.proofs.Powers.{power_of_sum}
 use Rattle.selection.specs.Starts.{halves}
 use Rattle.selection.specs.Operands.{Sized, InRange, Contained}
 use Rattle.selection.specs.Selectors.{Residual, LawfulSelector, Contains, beyond, guarded}
@@ -11,8 +13,7 @@ use Rattle.selection.specs.Radix4.{start_4, two_from, one_from, zero_from, minus
 use Rattle.selection.proofs.Range.{Plain, plain, whole, split, next_place, Sides, opens, shuts, balanced}
 use Rattle.selection.proofs.Scale.{shrink, grow, estimate_below, estimate_near, natural, moved, rest_is, product_below, product_near, estimate_natural}
 use Rattle.selection.proofs.Guard.{guard_still, guarded_least, guarded_most}
-use Rattle.selection.proofs.Radix2Digit.{four_pow}
-use Rattle.selection.proofs.Radix4Digit.{Bound4, Estimate4, digit4, step4, sixteen_pow, at_least_one}
+use Rattle.selection.proofs.Radix4Digit.{Bound4, Estimate4, digit4, step4, at_least_one}
 use Rattle.selection.proofs.Radix4First.{First4, start4, by_start, begin4}
 
 -- ---- the bound at the scale of the digit
@@ -20,16 +21,16 @@ use Rattle.selection.proofs.Radix4First.{First4, start4, by_start, begin4}
 to_bound : (K j x y : ℕ) → Sides 3 2 1 x y (2 ^ K * (4 ^ j * 4 ^ j)) → Bound4 K j x y
 to_bound K j x y b =
     let e : 3 * y - 2 ≡ b.gap = omega (arith, b.over) in
-    record { one = omega (arith, b.over); low = rw (e, sixteen_pow j) (omega (arith, b.low)); high = rw (sixteen_pow j) (omega (arith, b.high)) }
+    record { one = omega (arith, b.over); low = rw (e, mul-pow 4 4 j) (omega (arith, b.low)); high = rw (mul-pow 4 4 j) (omega (arith, b.high)) }
 
 from_bound : (K j x y : ℕ) → Bound4 K j x y → Sides 3 2 1 x y (2 ^ K * (4 ^ j * 4 ^ j))
 from_bound K j x y b =
-    let l = rw (sixteen_pow j) at b.low in
-    let h = rw (sixteen_pow j) at b.high in
+    let l = rw (mul-pow 4 4 j) at b.low in
+    let h = rw (mul-pow 4 4 j) at b.high in
     record { gap = 3 * y - 2; over = omega (arith, b.one); low = omega arith; high = omega arith }
 
 four_is : (j : ℕ) → 2 ^ (2 * j) ≡ 4 ^ j
-four_is j = let e : 2 * j ≡ j + j = omega arith in ap (λ t. 2 ^ t) e ∙ pow-add 2 j j ∙ sym (four_pow j)
+four_is j = power_of_sum (2 * j) j j (omega arith) ∙ sym (mul-pow 2 2 j)
 
 -- 2 ^ Q by the places made and those to come
 places_at : (Q j : ℕ) → 2 * j ≤ Q → 4 ^ j * 2 ^ (Q - 2 * j) ≡ 2 ^ Q
@@ -41,8 +42,7 @@ whole_at K Q j h = whole K Q ∙ rw (← (places_at Q j h)) (omega arith)
 -- units of 2 ^ t, by the same
 unit_at : (K Q j t : ℕ) → t ≤ K + Q → 2 * j ≤ Q → 2 ^ t * 2 ^ (K + Q - t) ≡ 2 ^ K * 4 ^ j * 2 ^ (Q - 2 * j)
 unit_at K Q j t l h =
-    let k : t + (K + Q - t) ≡ K + Q = omega arith in
-    sym (pow-add 2 t (K + Q - t)) ∙ ap (λ i. 2 ^ i) k ∙ pow-add 2 K Q ∙ rw (← (places_at Q j h)) (omega arith)
+    sym (power_of_sum (K + Q) t (K + Q - t) (omega arith)) ∙ pow-add 2 K Q ∙ rw (← (places_at Q j h)) (omega arith)
 
 contained : (K Q x j y : ℕ) → 2 * j ≤ Q → Bound4 K j x y → Contained 2 2 K Q x j (y * 2 ^ (Q - 2 * j))
 contained K Q x j y room b =
@@ -54,8 +54,7 @@ enough K Q sized = omega (arith, sized.width.0, sized.places.0)
 -- a product of at least X has an estimate that is no negative number
 product_natural : (K Q x s : ℕ) (P̂ : ℤ) → Plain K Q x → 6 ≤ K + Q → 2 ^ Q ≤ s → Estimates shortfall (K + Q) 6 P̂ (pos (x * s)) → (p : ℕ) × (P̂ ≡ pos p)
 product_natural K Q x s P̂ P large h e =
-    let k : 6 + (K + Q - 6) ≡ K + Q = omega arith in
-    let u : 2 ^ (K + Q) ≡ 64 * 2 ^ (K + Q - 6) = ap (λ i. 2 ^ i) (sym k) ∙ pow-add 2 6 (K + Q - 6) in
+    let u : 2 ^ (K + Q) ≡ 64 * 2 ^ (K + Q - 6) = power_of_sum (K + Q) 6 (K + Q - 6) (omega arith) in
     estimate_natural P̂ (2 ^ (K + Q - 6)) (x * s) (omega (arith, mul-le-mul_left x h, mul-le-mul_right (2 ^ Q) P.quarter, P.unit)) e.not_far
 
 -- the estimates at the scale of the digit
@@ -67,8 +66,8 @@ estimate K Q x j y p s w E large room s_is is e f =
     let below = estimate_below E w 1 4 16 (2 ^ (K + Q - 4)) (2 ^ K * 4 ^ j) (2 ^ (Q - 2 * j)) (2 ^ K * (4 ^ j * 4 ^ j)) (x * (y * y)) (pow_pos (Q - 2 * j)) (omega arith) (omega arith) u is e.not_over e.not_far in
     let near = estimate_near E w 1 4 16 (2 ^ (K + Q - 4)) (2 ^ K * 4 ^ j) (2 ^ (Q - 2 * j)) (2 ^ K * (4 ^ j * 4 ^ j)) (x * (y * y)) (pow_pos (Q - 2 * j)) (omega arith) (omega arith) u is e.not_over e.not_far in
     record {
-      w_below = rw (sixteen_pow j) (omega (arith, ints, below));
-      w_near = rw (sixteen_pow j, add_*ℤ) (omega (arith, ints, near));
+      w_below = rw (mul-pow 4 4 j) (omega (arith, ints, below));
+      w_near = rw (mul-pow 4 4 j, add_*ℤ) (omega (arith, ints, near));
       p_below = product_below p x s y (2 ^ (K + Q - 6)) (2 ^ K * 4 ^ j) (2 ^ (Q - 2 * j)) (pow_pos (Q - 2 * j)) u' s_is f.not_over;
       p_near = product_near p x s y (2 ^ (K + Q - 6)) (2 ^ K * 4 ^ j) (2 ^ (Q - 2 * j)) (pow_pos (Q - 2 * j)) u' s_is f.not_far;
     }
@@ -90,8 +89,7 @@ start : (K Q x : ℕ) → Sized K Q → InRange K x → Contained 2 2 K Q x 0 (h
 start K Q x sized range =
     let P = plain K Q x sized range in
     let u = halves (start_4 K x) in
-    let i : Q - 2 * 0 ≡ 1 + (Q - 1) = omega (arith, sized.places.0) in
-    let e : 2 ^ (Q - 2 * 0) ≡ 2 * 2 ^ (Q - 1) = ap (λ t. 2 ^ t) i ∙ pow-add 2 1 (Q - 1) in
+    let e : 2 ^ (Q - 2 * 0) ≡ 2 * 2 ^ (Q - 1) = power_of_sum (Q - 2 * 0) 1 (Q - 1) (omega (arith, sized.places.0)) in
     let z : 2 ^ (K + 2 * Q) ≡ 4 * 2 ^ K * (2 ^ (Q - 1) * 2 ^ (Q - 1)) = whole_at K Q 0 (omega arith) ∙ rw e (omega arith) in
     shuts 2 2 K Q x 0 (u * 2 ^ (Q - 1)) (go u (2 ^ (Q - 1)) (2 ^ (Q - 2 * 0)) (2 ^ (K + 2 * Q)) e z (grow 3 4 (2 ^ (Q - 1)) x u (4 * 2 ^ K) (pow_pos (Q - 1)) (start_sides K x P.quarter P.operand)))
   where
@@ -144,8 +142,7 @@ module _ (K Q x s : ℕ) (w Ŵ : ℤ) (sized : Sized K Q) (range : InRange K x) 
 
   s_is : s ≡ halves (start_4 K x) * (2 * 2 ^ (Q - 2 * 1))
   s_is =
-      let i : Q - 1 ≡ 1 + (Q - 2 * 1) = omega (arith, room_first) in
-      let h : 2 ^ (Q - 1) ≡ 2 * 2 ^ (Q - 2 * 1) = ap (λ t. 2 ^ t) i ∙ pow-add 2 1 (Q - 2 * 1) in
+      let h : 2 ^ (Q - 1) ≡ 2 * 2 ^ (Q - 2 * 1) = power_of_sum (Q - 1) 1 (Q - 2 * 1) (omega (arith, room_first)) in
       start_is ∙ ap (λ t. halves (start_4 K x) * t) h
 
   in_quarters : s ≡ start4 K x * 2 ^ (Q - 2 * 1)
@@ -159,8 +156,7 @@ module _ (K Q x s : ℕ) (w Ŵ : ℤ) (sized : Sized K Q) (range : InRange K x) 
 
   large_first : 2 ^ Q ≤ s
   large_first =
-      let i : Q ≡ 1 + (Q - 1) = omega (arith, room_first) in
-      let h : 2 ^ Q ≡ 2 * 2 ^ (Q - 1) = ap (λ t. 2 ^ t) i ∙ pow-add 2 1 (Q - 1) in
+      let h : 2 ^ Q ≡ 2 * 2 ^ (Q - 1) = power_of_sum Q 1 (Q - 1) (omega (arith, room_first)) in
       omega (arith, start_is, mul-le-mul_right (2 ^ (Q - 1)) (start_large K x))
 
   -- with a natural number for the product's estimate
@@ -203,7 +199,7 @@ module _ (K Q x j y : ℕ) (w Ŵ : ℤ) (sized : Sized K Q) (range : InRange K x
 
   large_now : 2 ^ Q ≤ y * 2 ^ (Q - 2 * j)
   large_now =
-      let h = rw (sixteen_pow j) at bound.high in
+      let h = rw (mul-pow 4 4 j) at bound.high in
       let g : 4 ^ j ≤ y = at_least_one (2 ^ K) (4 ^ j) x y range.below_one (omega arith) in
       omega (arith, mul-le-mul_right (2 ^ (Q - 2 * j)) g, places_at Q j room_now)
 

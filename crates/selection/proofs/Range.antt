@@ -2,6 +2,7 @@
 use Rattle.std.proofs.Common.{◌≡◌, ℕ, suc, ◌+◌, ◌-◌, ◌*◌, ◌^◌, ◌<◌, ◌≤◌, ℤ, pos, ◌-ℤ◌, ◌*ℤ◌, sym, ap, ◌∙◌, mul-le-mul_right, mul-le-mul, mul-le-mul_left, arith, pow_pos, pow_mono, pow-add}
 use borrow.Author.Differences.{ints, up, down}
 use Rattle.arithmetic.proofs.Congruence.{Size}
+use Rattle.arithmetic.proofs.Powers.{power_of_sum}
 use Rattle.arithmetic.proofs.Squares.{square}
 use Rattle.selection.specs.Operands.{Sized, InRange, Contained}
 use Rattle.selection.specs.Selectors.{Residual}
@@ -15,9 +16,7 @@ pub record Sides (c a v x s N : ℕ) : Type 0 where
 
 -- 2 ^ (K + 2 * Q)
 pub whole : (K Q : ℕ) → 2 ^ (K + 2 * Q) ≡ 2 ^ K * (2 ^ Q * 2 ^ Q)
-whole K Q =
-    let e : 2 * Q ≡ Q + Q = omega arith in
-    pow-add 2 K (2 * Q) ∙ ap (λ k. 2 ^ K * k) (ap (λ k. 2 ^ k) e ∙ pow-add 2 Q Q)
+whole K Q = pow-add 2 K (2 * Q) ∙ ap (λ k. 2 ^ K * k) (power_of_sum (2 * Q) Q Q (omega arith))
 
 scaled : (K Q c : ℕ) → 2 ^ K * (c * 2 ^ Q) ^ 2 ≡ c * c * 2 ^ (K + 2 * Q)
 scaled K Q c = rw (square (c * 2 ^ Q), whole K Q) (omega arith)
@@ -87,17 +86,14 @@ pub record Plain (K Q x : ℕ) : Type 0 where
 
 pub plain : (K Q x : ℕ) → Sized K Q → InRange K x → Plain K Q x
 plain K Q x z r =
-    let four : 2 ^ (2 + (K - 2)) ≡ 2 ^ 2 * 2 ^ (K - 2) = pow-add 2 2 (K - 2) in
-    let k : 2 + (K - 2) ≡ K = omega (arith, z.width.0) in
-    let k' : 2 ^ K ≡ 4 * 2 ^ (K - 2) = rw k at four in
-    let p : 2 + (Q - 2) ≡ Q = omega (arith, z.places.0) in
-    let p' : 2 ^ Q ≡ 4 * 2 ^ (Q - 2) = rw p at (pow-add 2 2 (Q - 2)) in
+    let k : 2 ^ K ≡ 4 * 2 ^ (K - 2) = power_of_sum K 2 (K - 2) (omega (arith, z.width.0)) in
+    let p : 2 ^ Q ≡ 4 * 2 ^ (Q - 2) = power_of_sum Q 2 (Q - 2) (omega (arith, z.places.0)) in
     let s : K + Q ≤ 56 = omega (arith, z.width.1, z.places.1) in
     record {
       operand = r.below_one;
       some = omega (arith, r.quarter, pow_pos (K - 2));
       quarter = omega (arith, r.quarter);
-      half = p';
+      half = p;
       place = pow_mono z.places.1;
       unit = pow-add 2 K Q;
       unit_small = pow_mono s;
@@ -106,17 +102,17 @@ plain K Q x z r =
 
 -- an operand above the quarter
 pub above_quarter : (K Q x : ℕ) → Sized K Q → 2 ^ (K - 2) < x → 2 ^ K < 4 * x
-above_quarter K Q x z h = let k : K ≡ 2 + (K - 2) = omega (arith, z.width.0) in rw k (omega (arith, pow-add 2 2 (K - 2)))
+above_quarter K Q x z h = omega (arith, power_of_sum K 2 (K - 2) (omega (arith, z.width.0)))
 
 -- b * j places made of Q
 pub split : (b Q j : ℕ) → b * j ≤ Q → 2 ^ (b * j) * 2 ^ (Q - b * j) ≡ 2 ^ Q
-split b Q j h = let e : b * j + (Q - b * j) ≡ Q = omega arith in sym (pow-add 2 (b * j) (Q - b * j)) ∙ ap (λ k. 2 ^ k) e
+split b Q j h = sym (power_of_sum Q (b * j) (Q - b * j) (omega arith))
 
 pub next_place : (b Q j : ℕ) → b * suc j ≤ Q → 2 ^ (Q - b * j) ≡ 2 ^ b * 2 ^ (Q - b * suc j)
-next_place b Q j h = let e : Q - b * j ≡ b + (Q - b * suc j) = omega arith in ap (λ k. 2 ^ k) e ∙ pow-add 2 b (Q - b * suc j)
+next_place b Q j h = power_of_sum (Q - b * j) b (Q - b * suc j) (omega arith)
 
 pub next_power : (b j : ℕ) → 2 ^ (b * suc j) ≡ 2 ^ b * 2 ^ (b * j)
-next_power b j = let e : b * suc j ≡ b + b * j = omega arith in ap (λ k. 2 ^ k) e ∙ pow-add 2 b (b * j)
+next_power b j = power_of_sum (b * suc j) b (b * j) (omega arith)
 
 -- the residual in plain numbers, with its power of two taken out
 pub balanced : (b K Q x j s : ℕ) (w : ℤ) → b * j ≤ Q → Residual b K Q x j s w → up w * 2 ^ (Q - b * j) + x * (s * s) ≡ 2 ^ (K + 2 * Q) + down w * 2 ^ (Q - b * j)

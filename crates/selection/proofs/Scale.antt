@@ -1,8 +1,9 @@
 -- The bound and the estimates at the scale of the last digit's place: s = y * v, with v out of every term.
-use Rattle.std.proofs.Common.{◌≡◌, ℕ, zero, suc, ◌+◌, ◌-◌, ◌*◌, ◌^◌, ◌<◌, ◌≤◌, [], ◌∷◌, ℤ, pos, negsuc, ◌+ℤ◌, ◌*ℤ◌, neg_ℤ, ◌≤ℤ◌, ◌<ℤ◌, sym, refl, ap, ◌∙◌, mul-le-mul_right, lt_of_mul-lt-mul_right, mul-le-mul_left, mul-pos, le_of_mul-le-mul_right, arith, pow_pos, pow_mono, pow-add}
+use Rattle.std.proofs.Common.{◌≡◌, ℕ, zero, suc, ◌+◌, ◌-◌, ◌*◌, ◌^◌, ◌<◌, ◌≤◌, [], ◌∷◌, ℤ, pos, negsuc, ◌+ℤ◌, ◌*ℤ◌, neg_ℤ, ◌≤ℤ◌, ◌<ℤ◌, sym, refl, ap, ◌∙◌, mul-le-mul_right, lt_of_mul-lt-mul_right, mul-le-mul_left, mul-pos, le_of_mul-le-mul_right, arith, pow_pos, pow_mono}
 use borrow.Author.Differences.{ints, up, down}
 use Rattle.arithmetic.specs.Estimates.{shortfall, Estimates}
 use Rattle.arithmetic.proofs.Ring.{ring, v, ◌⊕◌, ◌⊗◌, add_*ℤ}
+use Rattle.arithmetic.proofs.Powers.{power_of_sum}
 use Rattle.arithmetic.proofs.Congruence.{Size}
 use Rattle.selection.proofs.Range.{Sides}
 
@@ -66,7 +67,7 @@ pub estimate_size : (n t k : ℕ) (E z : ℤ) → t ≤ 6 → 6 ≤ n → Estima
 estimate_size n t k E z t_small n_large e s = go (2 ^ t) (2 ^ (n - t)) (2 ^ n) (pow_mono {j = 6} t_small) (pow_pos (n - t)) full s e.not_over (rw add_*ℤ at e.not_far)
   where
     full : 2 ^ n ≡ 2 ^ t * 2 ^ (n - t)
-    full = let i : n ≡ t + (n - t) = omega arith in ap (λ k. 2 ^ k) i ∙ pow-add 2 t (n - t)
+    full = power_of_sum n t (n - t) (omega arith)
 
     go : (T U D : ℕ) → T ≤ 64 → 0 < U → D ≡ T * U → Size (k * D) z → (E *ℤ pos U) ≤ℤ z → z <ℤ (E *ℤ pos U +ℤ pos 2 *ℤ pos U) → Size (64 * k + 2) E
     go T U D T_small U_pos d s below near =

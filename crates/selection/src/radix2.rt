@@ -8,7 +8,7 @@ use crate::start::Start;
 use crate::{Selector, is_beyond};
 
 /// Radix 2 with digits -1, 0 and 1, chosen from the residual alone.
-#[derive(Clone, Copy, Drop)]
+#[derive(Clone, Copy, Drop, PartialEq, Eq, Debug)]
 pub struct Radix2;
 
 impl Selector for Radix2 {

@@ -8,7 +8,7 @@ use crate::start::Start;
 use crate::{Selector, is_beyond};
 
 /// Radix 4 with digits from -2 to 2, chosen from the residual in sixteenths and the product in 64ths.
-#[derive(Clone, Copy, Drop)]
+#[derive(Clone, Copy, Drop, PartialEq, Eq, Debug)]
 pub struct Radix4;
 
 impl Selector for Radix4 {
@@ -59,6 +59,7 @@ impl Selector for Radix4 {
 }
 
 /// Chooses a digit by the two thresholds and the same with their signs turned, the first that the residual reaches.
+// A chain of `if`s: a form without branches was measured slower. An i64, as the estimates are: a narrower digit is converted at every turn.
 fn by_thresholds(residual: i64, inner: i64, outer: i64) -> i64
     requires { (unsigned_abs inner ≤ 2 ^ 42) × (unsigned_abs outer ≤ 2 ^ 42) }
     ensures { result ≡ by_thresholds outer inner (neg_ℤ inner) (neg_ℤ outer) residual }

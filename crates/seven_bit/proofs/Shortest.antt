@@ -2,13 +2,10 @@
 use Rattle.std.proofs.Common.{◌≡◌, ℕ, zero, suc, ◌+◌, ◌-◌, ◌*◌, ◌/◌, ◌%◌, ◌^◌, ◌<◌, ◌≤◌, Bool, true, false, cond, eqb, ltb, List, [], ◌∷◌, ◌++◌, Ok, Err, sym, refl, ap, ◌∙◌, ⊎_elim, arith, ltb-false, ltb-true, le-ltb, lt-ltb, ne_eqb}
 use borrow.Author.Tests.{eqb-false}
 use Rattle.std.proofs.lemmas.Bool.{cases_lt}
-use Rattle.seven_bit.specs.declared.fault.NumberFault.{NumberFault}
-use Rattle.seven_bit.specs.declared.fault.NumberFault.TheVariants.{Malformed, Cut}
+use Rattle.seven_bit.specs.declared.fault.NumberFault.TheVariants.{Malformed}
 use Rattle.seven_bit.specs.Numbers.{groups, Read, after_group, number_of, Bytes, ShortestRead}
 
-never : (e : NumberFault) (v : ℕ) (ys : List ℕ) → ◌≡◌ {A = Read} (Err e) (Ok (v, ys)) → ⊥
-never e v ys p = let z : ◌≡◌ {A = ℕ} 0 1 = cc in omega arith
-
+-- `cc` takes a constructor apart, and not a pair
 both : (v w : ℕ) (ys zs : List ℕ) → ◌≡◌ {A = Read} (Ok (v, ys)) (Ok (w, zs)) → (v ≡ w) × (ys ≡ zs)
 both v w ys zs e = let p : ◌≡◌ {A = ℕ × List ℕ} (v, ys) (w, zs) = cc in (ap (λ (q : ℕ × List ℕ). q.0) p, ap (λ (q : ℕ × List ℕ). q.1) p)
 
@@ -50,17 +47,17 @@ read_back (suc k) v ys h l =
     (cases_lt v 128)
 
 group_parts : (b : ℕ) (r : Read) (v : ℕ) (ys : List ℕ) → after_group b r ≡ Ok (v, ys) → (w : ℕ) × (r ≡ Ok (w, ys)) × (w ≡ 0 → ⊥) × (w < (2 ^ 25)) × (v ≡ b - 128 + 128 * w)
-group_parts b (Err d) v ys e = absurd (never d v ys e)
+group_parts b (Err d) v ys e = cc
 group_parts b (Ok p) v ys e = go (eqb p.0 0) (ltb p.0 (2 ^ 25)) (eqb-false p.0 0) (ltb-true p.0 (2 ^ 25)) e
   where
     go : (s t : Bool) → (s ≡ false → p.0 ≡ 0 → ⊥) → (t ≡ true → p.0 < (2 ^ 25)) → ◌≡◌ {A = Read} (cond s (Err Malformed) (cond t (Ok (b - 128 + 128 * p.0, p.1)) (Err Malformed))) (Ok (v, ys))
         → (w : ℕ) × (◌≡◌ {A = Read} (Ok p) (Ok (w, ys))) × (w ≡ 0 → ⊥) × (w < (2 ^ 25)) × (v ≡ b - 128 + 128 * w)
-    go true t f g d = absurd (never Malformed v ys d)
-    go false false f g d = absurd (never Malformed v ys d)
+    go true t f g d = cc
+    go false false f g d = cc
     go false true f g d = let q = both (b - 128 + 128 * p.0) v p.1 ys d in (p.0, ap (λ (y : List ℕ). Ok (p.0, y)) q.1, f refl, g refl, sym q.0)
 
 sound : (k : ℕ) (xs : List ℕ) (v : ℕ) (ys : List ℕ) → Bytes xs → number_of k xs ≡ Ok (v, ys) → (xs ≡ groups k v ++ ys) × (v < 2 ^ 32)
-sound k [] v ys B e = absurd (never Cut v ys e)
+sound k [] v ys B e = cc
 sound k (b ∷ bs) v ys B e = go (λ w f. sound (k - 1) bs w ys (λ i. B (suc i)) f) (ltb b 128) (eqb k 0) (ltb-true b 128) (ltb-false b 128) (eqb-false k 0) e
   where
     go : ((w : ℕ) → number_of (k - 1) bs ≡ Ok (w, ys) → (bs ≡ groups (k - 1) w ++ ys) × (w < 2 ^ 32)) → (s t : Bool) → (s ≡ true → b < 128) → (s ≡ false → 128 ≤ b) → (t ≡ false → k ≡ 0 → ⊥)
@@ -70,7 +67,7 @@ sound k (b ∷ bs) v ys B e = go (λ w f. sound (k - 1) bs w ys (λ i. B (suc i)
         let lt = f refl in
         let is : groups k v ≡ v ∷ [] = single k v (omega (arith, q.0)) in
         (rw is (cc (q.0, q.1)), omega (arith, q.0))
-    go h false true f g n d = absurd (never Malformed v ys d)
+    go h false true f g n d = cc
     go h false false f g n d =
         let p = group_parts b (number_of (k - 1) bs) v ys d in
         let ih = h p.0 p.1 in

@@ -1,8 +1,7 @@
 -- One word and one set of marks are right for a single: the relation determines them.
-use Rattle.std.proofs.Common.{◌≡◌, ℕ, ◌+◌, ◌*◌, ◌^◌, ◌<◌, ◌≤◌, true, false, eqb, leb, ◌≢◌, ◌⊎◌, pos, sym, refl, ap, ◌∙◌, subst, inl, inr, ⊎_elim, arith}
-use Rattle.std.proofs.lemmas.Bool.{cases_order}
+use Rattle.std.proofs.Common.{◌≡◌, ℕ, ◌+◌, ◌*◌, ◌^◌, ◌<◌, true, false, eqb, ◌≢◌, ◌⊎◌, pos, sym, refl, ap, ◌∙◌, subst, inl, inr, ⊎_elim, arith}
+use Rattle.std.proofs.lemmas.Bool.{cases_order, le-leb, lt-leb}
 use Rattle.std.proofs.lemmas.Bool.Decides.{nat_tests}
-use Rattle.arithmetic.proofs.Cases.{clash}
 use Rattle.single.specs.declared.mode.Mode.{Mode}
 use Rattle.single.specs.declared.mode.Mode.TheVariants.{Nearest, TowardZero, Up, Down}
 use Rattle.single.specs.declared.marks.Marks.{Marks}
@@ -64,15 +63,9 @@ record Ordinary (mode : Mode) (v w : ℕ) (m : Marks) : Type 0 where
   rounds : Rounded mode v w
   marks : ((units w ^ 2 * units v ≡ 2 ^ 447) × (m ≡ no_marks)) ⊎ ((units w ^ 2 * units v ≢ 2 ^ 447) × (m ≡ inexact_mark))
 
-at_least_true : (m n : ℕ) → m ≤ n → leb m n ≡ true
-at_least_true m n h = grind (arith, nat_tests)
-
-below_false : (m n : ℕ) → n < m → leb m n ≡ false
-below_false m n h = grind (arith, nat_tests)
-
 sorted : (mode : Mode) {v w : ℕ} {m : Marks} → Rsqrt mode v w m → Settled v w m ⊎ Ordinary mode v w m
-sorted mode (quiet_nan {v = v} n q) = inl (record { word_is = NotANumber true; reads = rw (n, at_least_true (2 ^ 22) (fraction v) q); answer = refl })
-sorted mode (signalling_nan {v = v} n q) = inl (record { word_is = NotANumber false; reads = rw (n, below_false (2 ^ 22) (fraction v) q); answer = refl })
+sorted mode (quiet_nan {v = v} n q) = inl (record { word_is = NotANumber true; reads = rw (n, le-leb (2 ^ 22) (fraction v) q); answer = refl })
+sorted mode (signalling_nan {v = v} n q) = inl (record { word_is = NotANumber false; reads = rw (n, lt-leb (2 ^ 22) (fraction v) q); answer = refl })
 sorted mode (plus_zero {v = v} z p) = inl (record { word_is = Zero false; reads = rw (zero_is_number v z, z, p); answer = refl })
 sorted mode (minus_zero {v = v} z p) = inl (record { word_is = Zero true; reads = rw (zero_is_number v z, z, p); answer = refl })
 sorted mode plus_infinity = inl (record { word_is = PlusInfinity; reads = refl; answer = refl })
@@ -88,8 +81,8 @@ rsqrt_once mode v w w' m m' r r' = go (sorted mode r) (sorted mode r')
         let same : s.word_is ≡ t.word_is = let a = s.reads in let b = t.reads in cc in
         let both : ◌≡◌ {A = Answer} (record { word = w; marks = m }) (record { word = w'; marks = m' }) = s.answer ∙ ap special_answer same ∙ sym t.answer in
         (ap (λ (a : Answer). a.word) both, ap (λ (a : Answer). a.marks) both)
-    go (inl s) (inr t) = let a = s.reads in let b = t.reads in clash (cc)
-    go (inr s) (inl t) = let a = s.reads in let b = t.reads in clash (cc)
+    go (inl s) (inr t) = let a = s.reads in let b = t.reads in cc
+    go (inr s) (inl t) = let a = s.reads in let b = t.reads in cc
     go (inr s) (inr t) = let e = rounded_once mode v w w' s.finite t.finite s.rounds t.rounds in (e, by e s.marks t.marks)
       where
         by : w ≡ w' → ((units w ^ 2 * units v ≡ 2 ^ 447) × (m ≡ no_marks)) ⊎ ((units w ^ 2 * units v ≢ 2 ^ 447) × (m ≡ inexact_mark)) →

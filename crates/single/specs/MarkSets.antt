@@ -1,5 +1,5 @@
 -- The marks that a result raises.
-use Rattle.std.specs.Prelude.{ℕ, ◌+◌, true, false, cond}
+use Rattle.std.specs.Prelude.{ℕ, ◌+◌, Bool, true, false, cond}
 use Rattle.single.specs.declared.marks.Marks.{Marks}
 
 -- 1 for inexact, 2 for invalid, 4 for division by zero, added
@@ -19,6 +19,10 @@ no_marks = record { inexact = false; invalid = false; division_by_zero = false }
 
 abbrev pub inexact_mark : Marks
 inexact_mark = record { inexact = true; invalid = false; division_by_zero = false }
+
+-- the marks of a result, by whether it is the root itself
+abbrev pub marks_of : Bool → Marks
+marks_of exact = cond exact no_marks inexact_mark
 
 abbrev pub invalid_mark : Marks
 invalid_mark = record { inexact = false; invalid = true; division_by_zero = false }

@@ -58,16 +58,14 @@ impl Positive {
         ensures { result ≡ rounded mode self.exponent outcome }
     {
         let first = (self.reach() / 2) << 23;
-        if outcome.exact {
-            Answer {
-                word: first + outcome.f / 2,
-                marks: Marks::NONE,
-            }
+        let rounded = if outcome.exact {
+            outcome.f / 2
         } else {
-            Answer {
-                word: first + cut_by(mode, outcome.f),
-                marks: Marks::INEXACT,
-            }
+            cut_by(mode, outcome.f)
+        };
+        Answer {
+            word: first + rounded,
+            marks: Marks::from(outcome),
         }
     }
 

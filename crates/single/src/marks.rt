@@ -1,6 +1,7 @@
 ghost use Rattle.std.specs.Prelude.{◌≡◌, ◌<◌};
-ghost use Rattle.single.specs.MarkSets.{number, union};
+ghost use Rattle.single.specs.MarkSets.{marks_of, number, union};
 
+use recurrence::registers::Outcome;
 use std::fmt;
 
 /// The marks that a result raises, IEEE 754's flags. Each is raised or not apart from the others, so they are three flags and no enum.
@@ -54,6 +55,18 @@ impl Marks {
             inexact: self.inexact || other.inexact,
             invalid: self.invalid || other.invalid,
             division_by_zero: self.division_by_zero || other.division_by_zero,
+        }
+    }
+}
+
+/// The marks of a result: none where it is the root itself, and inexact else.
+impl From<Outcome> for Marks {
+    ghost from_gives = { λ o r. r ≡ marks_of o.exact };
+
+    fn from(outcome: Outcome) -> Marks {
+        Marks {
+            inexact: !outcome.exact,
+            ..Marks::NONE
         }
     }
 }
