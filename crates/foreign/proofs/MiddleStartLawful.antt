@@ -4,6 +4,7 @@ use native.Mathlib.Nat.{eq_of_mul-eq-mul_right}
 use lib.Signed.{le_z}
 use borrow.Author.Differences.{ints, up, down, le_out, lt_out}
 use Rattle.arithmetic.specs.Estimates.{shortfall, Estimates}
+use Rattle.arithmetic.proofs.Powers.{power_of_sum}
 use Rattle.arithmetic.proofs.Ring.{add_*ℤ}
 use Rattle.selection.specs.Operands.{Sized, InRange, Contained}
 use Rattle.selection.specs.Selectors.{Residual, LawfulSelector, Contains, beyond, guarded}
@@ -58,7 +59,7 @@ module _ (K x : ℕ) (E : ℤ) (some : 0 < x) (quarter : 2 ^ K ≤ 4 * x) (opera
 
 -- 2 ^ Q in halves
 half : (Q : ℕ) → 2 ≤ Q → 2 ^ Q ≡ 2 * 2 ^ (Q - 1)
-half Q h = let e : Q ≡ 1 + (Q - 1) = omega arith in ap (λ k. 2 ^ k) e ∙ pow-add 2 1 (Q - 1)
+half Q h = power_of_sum Q 1 (Q - 1) (omega arith)
 
 start : (K Q x : ℕ) → Sized K Q → InRange K x → 2 ^ (K - 2) < x → Contained 1 1 K Q x 0 (3 * 2 ^ (Q - 1))
 start K Q x sized range above =
@@ -89,8 +90,7 @@ module _ (K Q x s : ℕ) (w Ŵ P̂ : ℤ) (sized : Sized K Q) (range : InRange K
       let N : 2 ^ (K + 2 * Q) ≡ 2 ^ K * (2 * 2 ^ (Q - 1) * (2 * 2 ^ (Q - 1))) = whole K Q ∙ ap (λ k. 2 ^ K * (k * k)) (half Q sized.places.0) in
       let is : up w * (2 * 2 ^ (Q - 1)) + x * (3 * 2 ^ (Q - 1) * (3 * 2 ^ (Q - 1))) ≡ 2 ^ K * (2 * 2 ^ (Q - 1) * (2 * 2 ^ (Q - 1))) + down w * (2 * 2 ^ (Q - 1)) =
       rw (s_is, v, N) at (balanced 1 K Q x 0 s w (omega arith) r) in
-      let scale : K + Q ≡ 2 + (K + Q - 2) = omega (arith, sized.width.0) in
-      let four : 4 * 2 ^ (K + Q - 2) ≡ 2 ^ K * (2 * 2 ^ (Q - 1)) = sym (pow-add 2 2 (K + Q - 2)) ∙ ap (λ k. 2 ^ k) (sym scale) ∙ pow-add 2 K Q ∙ ap (λ k. 2 ^ K * k) (half Q sized.places.0) in
+      let four : 4 * 2 ^ (K + Q - 2) ≡ 2 ^ K * (2 * 2 ^ (Q - 1)) = sym (power_of_sum (K + Q) 2 (K + Q - 2) (omega (arith, sized.width.0))) ∙ pow-add 2 K Q ∙ ap (λ k. 2 ^ K * k) (half Q sized.places.0) in
       let unit : 2 * 2 ^ (K + Q - 2) ≡ 2 ^ K * 2 ^ (Q - 1) = omega arith in
       let near : (pos 2 *ℤ w) <ℤ (Ŵ *ℤ pos (2 ^ (K + Q - 2)) +ℤ pos 2 *ℤ pos (2 ^ (K + Q - 2))) = rw add_*ℤ at eW.not_far in
       let low = estimate_below (2 ^ K) (2 ^ (Q - 1)) x (2 ^ (K + Q - 2)) w Ŵ (pow_pos (Q - 1)) unit is eW.not_over near in

@@ -3,6 +3,7 @@ use Rattle.std.proofs.Common.{◌≡◌, ℕ, zero, suc, ◌+◌, ◌-◌, ◌*�
 use borrow.Author.Differences.{ints}
 use borrow.Author.Tests.{eqb-false}
 use Rattle.std.proofs.lemmas.Bool.{cases_lt, cases_eq}
+use Rattle.arithmetic.proofs.Powers.{power_of_sum}
 use Rattle.arithmetic.proofs.Squares.{square}
 use Rattle.recurrence.specs.Root.{ReciprocalRoot}
 use Rattle.single.specs.declared.mode.Mode.{Mode}
@@ -168,7 +169,7 @@ module _ (v k x f : ℕ) (p : Placed v k x) (b : Between x f) where
 -- ---- where a normal operand stands
 
 pub three_powers : (a b c d : ℕ) → a + b + c ≡ d → 2 ^ a * 2 ^ b * 2 ^ c ≡ 2 ^ d
-three_powers a b c d e = sym (ap (λ (z : ℕ). z * 2 ^ c) (pow-add 2 a b)) ∙ sym (pow-add 2 (a + b) c) ∙ ap (λ (z : ℕ). 2 ^ z) e
+three_powers a b c d e = sym (power_of_sum d (a + b) c (sym e) ∙ ap (λ (z : ℕ). z * 2 ^ c) (pow-add 2 a b))
 
 -- 378 - E of a word's own exponent field
 reach_is : (e : ℕ) → e ≤ 378 → reach (pos e) ≡ 378 - e

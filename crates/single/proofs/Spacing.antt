@@ -1,7 +1,8 @@
 -- The values of the finite singles: no two words have one value, and where they lie.
-use Rattle.std.proofs.Common.{◌≡◌, ℕ, zero, suc, ◌+◌, ◌-◌, ◌*◌, ◌^◌, ◌<◌, ◌≤◌, sym, refl, ap, ◌∙◌, subst, ap₂, ⊎_elim, mul-le-mul_right, lt_of_mul-lt-mul_right, mul-le-mul_left, arith, pow_pos, pow_mono, pow-add}
+use Rattle.std.proofs.Common.{◌≡◌, ℕ, zero, suc, ◌+◌, ◌-◌, ◌*◌, ◌^◌, ◌<◌, ◌≤◌, sym, refl, ap, ◌∙◌, subst, ap₂, ⊎_elim, mul-le-mul_right, lt_of_mul-lt-mul_right, mul-le-mul_left, arith, pow_pos, pow_mono}
 use native.Mathlib.Nat.{eq_of_mul-eq-mul_right}
 use Rattle.std.proofs.lemmas.Bool.{cases_lt, cases_order}
+use Rattle.arithmetic.proofs.Powers.{power_of_sum}
 use Rattle.single.specs.Words.{exponent, fraction, scaled, units, infinity}
 use Rattle.single.specs.Readings.{packed}
 
@@ -28,8 +29,7 @@ shape_gap u n k s l h = ⊎_elim (λ a. absurd (finer a)) coarser (cases_lt s.pl
 
     coarser : k ≤ s.place → (n + 1) * 2 ^ k ≤ u
     coarser a =
-        let p : s.place ≡ (s.place - k) + k = omega arith in
-        let e : u ≡ s.bits * 2 ^ (s.place - k) * 2 ^ k = s.is ∙ ap (λ (z : ℕ). s.bits * 2 ^ z) p ∙ rw (pow-add 2 (s.place - k) k) (omega arith) in
+        let e : u ≡ s.bits * 2 ^ (s.place - k) * 2 ^ k = omega (arith, s.is, ap (λ (z : ℕ). s.bits * z) (power_of_sum s.place (s.place - k) k (omega arith))) in
         let g : n < s.bits * 2 ^ (s.place - k) = lt_of_mul-lt-mul_right (2 ^ k) (omega arith) in
         omega (arith, mul-le-mul_right (2 ^ k) g)
 
