@@ -1,5 +1,5 @@
 -- The reference jobs, and what is established of them: by the definition of the result and by the recurrence.
-use Rattle.std.specs.Prelude.{ℕ, zero, suc, ◌≡◌, true, false, cond, List, [], ◌∷◌, ℤ, pos, negsuc}
+use Rattle.std.specs.Prelude.{ℕ, zero, suc, ◌≡◌, true, false, List, [], ◌∷◌, ℤ, pos, negsuc}
 use Rattle.number_form.specs.Forms.{FormModel}
 use Rattle.number_form.specs.Plain.{plain}
 use Rattle.selection.specs.Selectors.{SelectorModel, digits}
