@@ -20,14 +20,20 @@ use single::mode::Mode;
 
 impl LaneJob {
     /// Begins a fixed-point job.
-    pub(crate) fn begin<S: Selector, F: NumberForm>(make: &Make<'_, S, F>, operand: Operand) -> LaneJob
+    pub(crate) fn begin<S: Selector, F: NumberForm>(
+        make: &Make<'_, S, F>,
+        operand: Operand,
+    ) -> LaneJob
         ensures { seen_job result ≡ begun (models S.model F.model make.now) (fixed operand.k operand.q operand.x) }
     {
         LaneJob::Fixed(Job::begin(make, operand))
     }
 
     /// Begins a single's job.
-    pub(crate) fn begin_single<S: Selector, F: NumberForm>(make: &Make<'_, S, F>, word: u32) -> LaneJob
+    pub(crate) fn begin_single<S: Selector, F: NumberForm>(
+        make: &Make<'_, S, F>,
+        word: u32,
+    ) -> LaneJob
         ensures { seen_job result ≡ begun (models S.model F.model make.now) (single word) }
     {
         match Decoded::from(word) {
@@ -58,7 +64,11 @@ impl LaneJob {
     }
 
     /// Makes so many digits, one upon the other.
-    pub(crate) fn turns<S: Selector, F: NumberForm>(self, make: &Make<'_, S, F>, count: u32) -> LaneJob
+    pub(crate) fn turns<S: Selector, F: NumberForm>(
+        self,
+        make: &Make<'_, S, F>,
+        count: u32,
+    ) -> LaneJob
         ensures { seen_job result ≡ turns (models S.model F.model make.now) count (seen_job self) }
     {
         let mut job = self;

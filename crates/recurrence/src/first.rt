@@ -12,7 +12,10 @@ use selection::start::Start;
 
 impl Running {
     /// Sets the registers for an operand.
-    pub(crate) fn new<S: Selector, F: NumberForm>(make: &Make<'_, S, F>, operand: Operand) -> Running
+    pub(crate) fn new<S: Selector, F: NumberForm>(
+        make: &Make<'_, S, F>,
+        operand: Operand,
+    ) -> Running
         ensures { result.registers ≡ first_registers (S.Selector.model make.now.selector.now) (F.NumberForm.model make.now.form.now) operand.k operand.q operand.x }
     {
         let start = make.selector.start(operand.k, operand.x);

@@ -15,7 +15,10 @@ use selection::Selector;
 
 impl Running {
     /// Makes one digit, and tells how it was chosen; where none is left to make, it tells nothing and changes nothing.
-    pub(crate) fn turn<S: Selector, F: NumberForm>(&mut self, make: &Make<'_, S, F>) -> Option<Choice>
+    pub(crate) fn turn<S: Selector, F: NumberForm>(
+        &mut self,
+        make: &Make<'_, S, F>,
+    ) -> Option<Choice>
         ensures tells { result ≡ (if complete (S.Selector.model make.now.selector.now) self.old.registers then None else Some (chosen (S.Selector.model make.now.selector.now) (F.NumberForm.model make.now.form.now) self.old.registers)) }
         ensures after { self.new.registers ≡ turned (S.Selector.model make.now.selector.now) (F.NumberForm.model make.now.form.now) self.old.registers }
     {

@@ -24,7 +24,11 @@ pub fn rsqrt<S: Selector, F: NumberForm>(make: &Make<'_, S, F>, word: u32, mode:
     answer_by_digits(make, word, mode)
 }
 
-fn answer_by_digits<S: Selector, F: NumberForm>(make: &Make<'_, S, F>, word: u32, mode: Mode) -> Answer
+fn answer_by_digits<S: Selector, F: NumberForm>(
+    make: &Make<'_, S, F>,
+    word: u32,
+    mode: Mode,
+) -> Answer
     ensures { result ≡ told (S.Selector.model make.now.selector.now) (F.NumberForm.model make.now.form.now) mode (reading word) }
 {
     match Decoded::from(word) {

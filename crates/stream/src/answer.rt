@@ -1,13 +1,13 @@
 ghost use Rattle.std.specs.Prelude.{◌≡◌, ℕ, ◌^◌, ◌<◌, ◌≤◌, length, Ok};
 ghost use Rattle.protocol.specs.declared.call.Call.TheVariants.{Ask};
 ghost use Rattle.protocol.specs.declared.call.Request.TheVariants.{Collect};
-ghost use Rattle.protocol.specs.Operands.{make};
 ghost use Rattle.protocol.specs.Bank.{answer, after};
 ghost use Rattle.records.specs.Records.{item, label_length};
 ghost use Rattle.lanes.specs.Seen.{seen};
 ghost use Rattle.lanes.specs.Replies.{FewShown};
 ghost use Rattle.stream.specs.Answers.{bytes};
 ghost use Rattle.stream.specs.Entries.{entry, calling, numbers, shown, refused, stated, heard, hears, bank_then, control_then};
+ghost use Rattle.bank.specs.Makes.{models, KeepsMake};
 
 use bank::bank::Bank;
 use control::collecting::Collecting;
@@ -30,10 +30,10 @@ pub(crate) fn answer<S: Selector, F: NumberForm>(
 ) -> ByteList<8>
     requires place { place < 2 ^ 21 }
     requires label { label_length (item asked) < 2 ^ 21 }
-    ensures says { result ≡ bytes (numbers (entry (make (S.Selector.model bank.old.make.selector) (F.NumberForm.model bank.old.make.form)) (seen bank.old.lanes) control.old place (item asked.entry))) }
-    ensures bank { seen bank.new.lanes ≡ bank_then (make (S.Selector.model bank.old.make.selector) (F.NumberForm.model bank.old.make.form)) (seen bank.old.lanes) (entry (make (S.Selector.model bank.old.make.selector) (F.NumberForm.model bank.old.make.form)) (seen bank.old.lanes) control.old place (item asked.entry)) }
-    ensures control { control.new ≡ control_then control.old (entry (make (S.Selector.model bank.old.make.selector) (F.NumberForm.model bank.old.make.form)) (seen bank.old.lanes) control.old place (item asked.entry)) }
-    ensures make { bank.new.make ≡ bank.old.make }
+    ensures says { result ≡ bytes (numbers (entry (models S.model F.model bank.old) (seen bank.old.lanes) control.old place (item asked.entry))) }
+    ensures bank { seen bank.new.lanes ≡ bank_then (models S.model F.model bank.old) (seen bank.old.lanes) (entry (models S.model F.model bank.old) (seen bank.old.lanes) control.old place (item asked.entry)) }
+    ensures control { control.new ≡ control_then control.old (entry (models S.model F.model bank.old) (seen bank.old.lanes) control.old place (item asked.entry)) }
+    ensures make { KeepsMake bank.old bank.new }
 {
     work_off(bank, control, asked).unwrap_or_else(|fault| refused(fault, place))
 }
@@ -45,10 +45,10 @@ fn work_off<S: Selector, F: NumberForm>(
     asked: Record<'_>,
 ) -> Result<ByteList<8>, Fault>
     requires { label_length (item asked) < 2 ^ 21 }
-    ensures says { (place : ℕ) → stated (λ told. told) place result ≡ bytes (numbers (entry (make (S.Selector.model bank.old.make.selector) (F.NumberForm.model bank.old.make.form)) (seen bank.old.lanes) control.old place (item asked.entry))) }
-    ensures bank { (place : ℕ) → seen bank.new.lanes ≡ bank_then (make (S.Selector.model bank.old.make.selector) (F.NumberForm.model bank.old.make.form)) (seen bank.old.lanes) (entry (make (S.Selector.model bank.old.make.selector) (F.NumberForm.model bank.old.make.form)) (seen bank.old.lanes) control.old place (item asked.entry)) }
-    ensures control { (place : ℕ) → control.new ≡ control_then control.old (entry (make (S.Selector.model bank.old.make.selector) (F.NumberForm.model bank.old.make.form)) (seen bank.old.lanes) control.old place (item asked.entry)) }
-    ensures make { bank.new.make ≡ bank.old.make }
+    ensures says { (place : ℕ) → stated (λ told. told) place result ≡ bytes (numbers (entry (models S.model F.model bank.old) (seen bank.old.lanes) control.old place (item asked.entry))) }
+    ensures bank { (place : ℕ) → seen bank.new.lanes ≡ bank_then (models S.model F.model bank.old) (seen bank.old.lanes) (entry (models S.model F.model bank.old) (seen bank.old.lanes) control.old place (item asked.entry)) }
+    ensures control { (place : ℕ) → control.new ≡ control_then control.old (entry (models S.model F.model bank.old) (seen bank.old.lanes) control.old place (item asked.entry)) }
+    ensures make { KeepsMake bank.old bank.new }
 {
     match asked {
         Record::Note(label) => Ok(bytes_of(&[0, label.len() as u32])),
@@ -64,10 +64,10 @@ fn call<S: Selector, F: NumberForm>(
     control: &mut Control,
     call: Call,
 ) -> Result<ByteList<8>, Fault>
-    ensures says { (place : ℕ) → stated (λ told. told) place result ≡ bytes (numbers (calling (make (S.Selector.model bank.old.make.selector) (F.NumberForm.model bank.old.make.form)) (seen bank.old.lanes) place call)) }
-    ensures leaves { seen bank.new.lanes ≡ after (make (S.Selector.model bank.old.make.selector) (F.NumberForm.model bank.old.make.form)) (seen bank.old.lanes) call }
-    ensures control { control.new ≡ hears call control.old (answer (make (S.Selector.model bank.old.make.selector) (F.NumberForm.model bank.old.make.form)) (seen bank.old.lanes) call) }
-    ensures make { bank.new.make ≡ bank.old.make }
+    ensures says { (place : ℕ) → stated (λ told. told) place result ≡ bytes (numbers (calling (models S.model F.model bank.old) (seen bank.old.lanes) place call)) }
+    ensures leaves { seen bank.new.lanes ≡ after (models S.model F.model bank.old) (seen bank.old.lanes) call }
+    ensures control { control.new ≡ hears call control.old (answer (models S.model F.model bank.old) (seen bank.old.lanes) call) }
+    ensures make { KeepsMake bank.old bank.new }
 {
     match call {
         Call::Ask {
@@ -85,10 +85,10 @@ fn collect<S: Selector, F: NumberForm>(
     name: Name,
     mode: Mode,
 ) -> Result<ByteList<8>, Fault>
-    ensures says { (place : ℕ) → stated (λ told. told) place result ≡ bytes (numbers (calling (make (S.Selector.model bank.old.make.selector) (F.NumberForm.model bank.old.make.form)) (seen bank.old.lanes) place (Ask name (Collect mode)))) }
-    ensures leaves { seen bank.new.lanes ≡ after (make (S.Selector.model bank.old.make.selector) (F.NumberForm.model bank.old.make.form)) (seen bank.old.lanes) (Ask name (Collect mode)) }
-    ensures control { control.new ≡ heard control.old (answer (make (S.Selector.model bank.old.make.selector) (F.NumberForm.model bank.old.make.form)) (seen bank.old.lanes) (Ask name (Collect mode))) }
-    ensures make { bank.new.make ≡ bank.old.make }
+    ensures says { (place : ℕ) → stated (λ told. told) place result ≡ bytes (numbers (calling (models S.model F.model bank.old) (seen bank.old.lanes) place (Ask name (Collect mode)))) }
+    ensures leaves { seen bank.new.lanes ≡ after (models S.model F.model bank.old) (seen bank.old.lanes) (Ask name (Collect mode)) }
+    ensures control { control.new ≡ heard control.old (answer (models S.model F.model bank.old) (seen bank.old.lanes) (Ask name (Collect mode))) }
+    ensures make { KeepsMake bank.old bank.new }
 {
     let mut span = control.spanned(mode);
     let answer = bank.collect(name, span.mode())?;

@@ -1,7 +1,7 @@
 ghost use Rattle.std.specs.Prelude.{◌≡◌, ◌≤◌, length};
-ghost use Rattle.protocol.specs.Operands.{make};
 ghost use Rattle.lanes.specs.Seen.{seen};
 ghost use Rattle.stream.specs.Runs.{Runs, Ran};
+ghost use Rattle.bank.specs.Makes.{models, KeepsMake};
 
 use crate::turn::turn;
 use crate::writer::Writer;
@@ -31,8 +31,8 @@ pub fn run<S: Selector, F: NumberForm>(
     input: &[u8],
     output: &mut [u8],
 ) -> Result<Report, Fault>
-    ensures runs { Runs (make (S.Selector.model bank.old.make.selector) (F.NumberForm.model bank.old.make.form)) input.now output.old output.new (seen bank.old.lanes) (seen bank.new.lanes) control.old control.new result }
-    ensures make { bank.new.make ≡ bank.old.make }
+    ensures runs { Runs (models S.model F.model bank.old) input.now output.old output.new (seen bank.old.lanes) (seen bank.new.lanes) control.old control.new result }
+    ensures make { KeepsMake bank.old bank.new }
 {
     if input.len() > LONGEST {
         return Err(Fault::TooLong);
@@ -49,8 +49,8 @@ fn work_off<S: Selector, F: NumberForm>(
     output: &mut [u8],
 ) -> Report
     requires { length input.now ≤ 32768 }
-    ensures ran { Ran (make (S.Selector.model bank.old.make.selector) (F.NumberForm.model bank.old.make.form)) input.now output.old output.new (seen bank.old.lanes) (seen bank.new.lanes) control.old control.new result }
-    ensures make { bank.new.make ≡ bank.old.make }
+    ensures ran { Ran (models S.model F.model bank.old) input.now output.old output.new (seen bank.old.lanes) (seen bank.new.lanes) control.old control.new result }
+    ensures make { KeepsMake bank.old bank.new }
 {
     let mut reader = Reader::new(input);
     let mut writer = Writer::new(output);

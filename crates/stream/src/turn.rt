@@ -1,7 +1,7 @@
 ghost use Rattle.std.specs.Prelude.{◌≡◌, ◌≤◌, length};
-ghost use Rattle.protocol.specs.Operands.{make};
 ghost use Rattle.lanes.specs.Seen.{seen};
 ghost use Rattle.stream.specs.Runs.{Turned};
+ghost use Rattle.bank.specs.Makes.{models, KeepsMake};
 
 use crate::answer::{answer, refused};
 use crate::writer::Writer;
@@ -24,8 +24,8 @@ pub(crate) fn turn<S: Selector, F: NumberForm>(
     requires { length reader.old.input.now ≤ 32768 }
     ensures input { reader.new.input.now ≡ reader.old.input.now }
     ensures output { writer.new.out.ghost_name ≡ writer.old.out.ghost_name }
-    ensures turned { Turned (make (S.Selector.model bank.old.make.selector) (F.NumberForm.model bank.old.make.form)) reader.old.input.now reader.old.at reader.new.at writer.old.at writer.old.out.now writer.new.at writer.new.out.now (seen bank.old.lanes) (seen bank.new.lanes) control.old control.new result }
-    ensures make { bank.new.make ≡ bank.old.make }
+    ensures turned { Turned (models S.model F.model bank.old) reader.old.input.now reader.old.at reader.new.at writer.old.at writer.old.out.now writer.new.at writer.new.out.now (seen bank.old.lanes) (seen bank.new.lanes) control.old control.new result }
+    ensures make { KeepsMake bank.old bank.new }
 {
     if reader.is_at_end() {
         return ControlFlow::Break(None);
