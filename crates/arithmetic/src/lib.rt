@@ -4,6 +4,8 @@
 ghost use Rattle.std.specs.Prelude.{◌≡◌, pos, ◌-ℤ◌, ◌*ℤ◌};
 ghost use Rattle.arithmetic.specs.Residues.{word, signed};
 
+// Each function says by its contract what the library's word means in ℤ, which the laws of number forms and selectors speak of.
+
 /// Gives the 64 bits of a signed number.
 pub fn word_of(n: i64) -> u64
     ensures { result ≡ word n }

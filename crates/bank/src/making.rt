@@ -36,6 +36,7 @@ impl<S: Selector, F: NumberForm> Bank<S, F> {
     }
 
     /// Makes one of the eight calls.
+    // that few digits are shown is said of the answer: a look's digits and s are a pair of plain numbers, as a rule of the project has it
     pub fn answer(&mut self, call: Call) -> Result<Reply, Refusal>
         ensures few { FewShown result }
         ensures answers { result ≡ answer (models S.model F.model self.old) (seen self.old.lanes) call }

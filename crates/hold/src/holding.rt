@@ -17,6 +17,7 @@ use protocol::refusal::Refusal;
 use selection::Selector;
 use single::answer::Answer;
 
+// Each call is the bank's by numbers. Both exist: a stream names holds by numbers, and a `Hold` can't be used twice.
 impl Hold {
     /// Takes a lane of a bank for some ticks.
     pub fn take<S: Selector, F: NumberForm>(
@@ -35,6 +36,7 @@ impl Hold {
     }
 
     /// Loads a fixed-point job: the operand x of width K, to be worked to Q places.
+    // K, Q and x one by one, in every call that loads: the three are an operand only once the bank has checked them
     pub fn load<S: Selector, F: NumberForm>(
         &self,
         bank: &mut Bank<S, F>,

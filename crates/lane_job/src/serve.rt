@@ -14,6 +14,7 @@ use single::answer::Answer;
 use single::mode::Mode;
 
 /// Loads a fixed-point operand where no job is loaded.
+// functions and not methods: a lane's job is an `Option` here, and the make is of another crate
 pub fn serve_load<S: Selector, F: NumberForm>(
     make: &Make<'_, S, F>,
     job: Option<LaneJob>,

@@ -9,6 +9,7 @@ pub struct Holder {
 }
 
 /// A lane, free or held.
+// a record of its own, as a rule of the project has it: the holder is an `Option` in it, and a lane may come to have more
 #[derive(Clone, Copy, Drop, PartialEq, Eq, Debug)]
 pub struct Lane {
     pub(crate) holder: Option<Holder>,

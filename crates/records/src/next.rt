@@ -7,6 +7,7 @@ use crate::reader::{Found, Reader};
 
 impl<'a> Reader<'a> {
     /// Hands out the next record, where there is one. A fault leaves the reader where it is.
+    // no `Iterator`: a fault leaves the reader where it is, and a loop would be handed it for ever
     #[tactic(auto, using(crate::proofs::Suffix::onward, crate::proofs::Suffix::placed_within))]
     pub fn next(&mut self) -> Result<Option<Found<'a>>, Placed>
         ensures same { self.new.input.now ≡ self.old.input.now }

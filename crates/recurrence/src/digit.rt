@@ -30,6 +30,7 @@ impl Terms {
 
 impl Partial {
     /// Appends a digit at its place.
+    // the sizes are asked of four private functions here: types for a place and a digit would be taken apart at each sum
     pub(crate) fn append(self, radix: u32, digit: i64, place: u32) -> Partial
         requires sizes { (2 ≤ radix) × (radix ≤ 4) × (place ≤ 28) }
         requires digit_fits { (neg_ℤ (pos radix) <ℤ digit) × (digit <ℤ pos radix) }
@@ -59,6 +60,7 @@ impl Partial {
 }
 
 /// Puts a digit that is not negative at its place.
+// beside `at_place`, since a partial result has 32 bits and a term 64: each would cast to the other's type and back
 fn digit_at_place(digit: i64, place: u32) -> u32
     requires { (pos 0 ≤ℤ digit) × (digit ≤ℤ pos 3) × (place ≤ 28) }
     ensures is { result ≡ unsigned_abs digit * 2 ^ place }

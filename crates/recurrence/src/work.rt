@@ -66,6 +66,7 @@ impl Job {
         }
     }
 
+    // here and below a match of two arms answers for both cases of a job; an `Option` of the registers would name one of them alone
     /// Counts the digits made.
     pub fn made<S: Selector>(&self, selector: &S) -> u32
         ensures is { result ≡ made (S.Selector.model selector.now) (seen self.now) }
