@@ -1,5 +1,5 @@
 -- A number's groups, written one after the other.
-use Rattle.std.proofs.Common.{◌≡◌, ℕ, zero, suc, ◌+◌, ◌%◌, ◌/◌, ◌^◌, ◌<◌, ◌≤◌, List, [], ◌∷◌, ◌++◌, length, sym, ap, ◌∙◌, append_assoc, arith, length-append}
+use Rattle.std.proofs.Common.{◌≡◌, ℕ, zero, suc, ◌+◌, ◌%◌, ◌/◌, ◌^◌, ◌<◌, ◌≤◌, Bool, true, false, cond, nat_lt, List, [], ◌∷◌, ◌++◌, length, sym, ap, ◌∙◌, append_assoc, arith, length-append}
 use Rattle.seven_bit.specs.Numbers.{groups, encoded}
 use Rattle.seven_bit.proofs.Shortest.{bound, single, more}
 
@@ -30,3 +30,12 @@ one_more written rest number next h p n = go p.left p.count p.small p.is
 
 pub finished : (written : List ℕ) (rest number : ℕ) → rest < 128 → Partway written rest number → written ++ rest ∷ [] ≡ encoded number
 finished written rest number h p = ap (λ (l : List ℕ). written ++ l) (sym (single p.left rest h)) ∙ p.is
+
+-- a number has at least one group
+pub some : (k v : ℕ) → 1 ≤ length (groups k v)
+some zero v = omega arith
+some (suc k) v = go (nat_lt v 128)
+  where
+    go : (b : Bool) → 1 ≤ length (cond b (v ∷ []) ((128 + v % 128) ∷ groups k (v / 128)))
+    go true = omega arith
+    go false = omega arith

@@ -1,2 +1,3 @@
 pub mod Shortest
+pub mod Filling
 pub mod Encoding
