@@ -1,4 +1,5 @@
 pub mod Written
+pub mod Grouping
 pub mod Turning
 pub mod Coursing
 pub mod Honest

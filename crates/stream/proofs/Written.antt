@@ -1,5 +1,5 @@
 -- Bytes written one after the other.
-use Rattle.std.proofs.Common.{◌≡◌, ℕ, ◌+◌, ◌<◌, ◌≤◌, List, [], ◌++◌, get_or, length, take, drop, sym, ap, ◌∙◌, append_assoc, append-nil, arith, length-append}
+use Rattle.std.proofs.Common.{◌≡◌, ℕ, ◌+◌, ◌<◌, ◌≤◌, List, [], ◌++◌, get_or, length, take, drop, sym, refl, ap, ◌∙◌, append_assoc, append-nil, arith, length-append}
 use Rattle.std.proofs.lemmas.List.{drop-drop, take_more, flat_map_more}
 use Rattle.std.proofs.lemmas.List.Folds.{length-flat_map-take}
 use Rattle.seven_bit.specs.Numbers.{encoded}
@@ -24,6 +24,20 @@ one_more vs i h = flat_map_more encoded [] (take i vs) (get_or vs i 0) ∙ ap by
 -- they are within the bytes of all
 pub one_more_fits : (vs : List ℕ) (i : ℕ) → i < length vs → length (bytes (take i vs)) + length (encoded (get_or vs i 0)) ≤ length (bytes vs)
 one_more_fits vs i h = length-flat_map-take encoded vs i 0 h
+
+-- at first nothing is written
+pub wrote_none : (a : ℕ) (o : List ℕ) → Writes a o a o []
+wrote_none a o = record { next_is = omega arith; written = sym (append-nil (take a o)); beyond = refl; room = refl }
+
+-- one number more is written
+pub wrote_more : (a : ℕ) (o : List ℕ) (b : ℕ) (p : List ℕ) (c : ℕ) (q vs : List ℕ) (i : ℕ) → i < length vs → Writes a o b p (bytes (take i vs)) → Writes b p c q (encoded (get_or vs i 0)) →
+    Writes a o c q (bytes (take (i + 1) vs))
+wrote_more a o b p c q vs i h f s = rw (sym (one_more vs i h)) (wrote_then a o b p c q _ _ f s)
+
+-- there is room for one number more
+pub more_fits : (a : ℕ) (o : List ℕ) (b : ℕ) (p vs : List ℕ) (i : ℕ) → i < length vs → a + 8 ≤ length o → length (bytes vs) ≤ 8 → Writes a o b p (bytes (take i vs)) →
+    b + length (encoded (get_or vs i 0)) ≤ length p
+more_fits a o b p vs i h r l f = omega (arith, r, l, f.next_is, f.room, one_more_fits vs i h)
 
 pub wrote_last : (a : ℕ) (o : List ℕ) (b : ℕ) (p xs : List ℕ) → Writes a o b p xs → Writes a o b p (xs ++ [])
 wrote_last a o b p xs f = rw (append-nil xs) f

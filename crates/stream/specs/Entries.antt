@@ -99,10 +99,10 @@ control_then c (marked k) = c
 control_then c (faulty f place) = c
 control_then c (called place k r) = hears k c r
 
--- the bytes of a result: those of what it has, or those of its fault with a place
+-- the numbers of a result: those of what it has, or those of its fault with a place
 abbrev pub stated : {A : Type 0} → (A → List ℕ) → ℕ → Result A Fault → List ℕ
 stated of place (Ok a) = of a
-stated of place (Err f) = bytes (refused f place)
+stated of place (Err f) = refused f place
 
 -- ---- what comes of a record at a place
 

@@ -1,3 +1,4 @@
 pub mod Answers
 pub mod Entries
+pub mod Tellings
 pub mod Runs

@@ -3,5 +3,6 @@
 
 mod answer;
 pub mod run;
+mod told;
 mod turn;
 mod writer;

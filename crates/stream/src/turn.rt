@@ -3,7 +3,7 @@ ghost use Rattle.lanes.specs.Seen.{seen};
 ghost use Rattle.stream.specs.Runs.{Turned};
 ghost use Rattle.bank.specs.Makes.{models, KeepsMake};
 
-use crate::answer::{answer, refused};
+use crate::answer::answer;
 use crate::writer::Writer;
 use bank::bank::Bank;
 use control::control::Control;
@@ -39,13 +39,13 @@ pub(crate) fn turn<S: Selector, F: NumberForm>(
     }
     match reader.next() {
         Ok(Some(found)) => {
-            let answer = answer(bank, control, found.place as u32, found.record);
-            writer.answer(answer.as_slice());
+            let told = answer(bank, control, found.record);
+            writer.answer(told, found.place as u32);
             ControlFlow::Continue(())
         }
         Ok(None) => ControlFlow::Break(None),
         Err(placed) => {
-            writer.answer(refused(placed.fault, placed.place as u32).as_slice());
+            writer.answer(Err(placed.fault), placed.place as u32);
             ControlFlow::Break(Some(placed))
         }
     }

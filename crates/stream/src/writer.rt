@@ -1,5 +1,13 @@
-ghost use Rattle.std.specs.Prelude.{◌≡◌, ◌+◌, ◌-◌, ◌≤◌, length, nat_lt};
-ghost use Rattle.stream.specs.Answers.{Writes};
+ghost use Rattle.std.specs.Prelude.{◌≡◌, ◌+◌, ◌-◌, ◌^◌, ◌<◌, ◌≤◌, [], ◌∷◌, length, nat_lt, Ok};
+ghost use Rattle.seven_bit.specs.Numbers.{encoded};
+ghost use Rattle.lanes.specs.Replies.{FewShown};
+ghost use Rattle.stream.specs.Answers.{bytes, Writes};
+ghost use Rattle.stream.specs.Entries.{shown, stated};
+ghost use Rattle.stream.specs.Tellings.{telling, IsShort};
+
+use crate::told::Told;
+use protocol::call::Reply;
+use records::fault::Fault;
 
 /// So many bytes an answer may have.
 const ROOM: usize = 8;
@@ -36,14 +44,74 @@ impl<'a> Writer<'a> {
         self.at
     }
 
-    /// Writes the bytes of an answer.
-    pub(crate) fn answer(&mut self, bytes: &[u8])
-        requires { self.old.at + length bytes.now ≤ length self.old.out.now }
+    /// Writes an answer: 0 and what is told, or the number of a fault and a place.
+    pub(crate) fn answer(&mut self, told: Result<Told, Fault>, place: u32)
+        requires room { self.old.at + 8 ≤ length self.old.out.now }
+        requires place { place < 2 ^ 21 }
+        requires short { IsShort told }
         ensures same { self.new.out.ghost_name ≡ self.old.out.ghost_name }
-        ensures writes { Writes self.old.at self.old.out.now self.new.at self.new.out.now bytes.now }
+        ensures writes { Writes self.old.at self.old.out.now self.new.at self.new.out.now (bytes (stated telling place told)) }
     {
-        let end = self.at + bytes.len();
-        self.out[self.at..end].copy_from_slice(bytes);
-        self.at = end;
+        match told {
+            Ok(Told::Noted { length }) => self.numbers(&[0, length]),
+            Ok(Told::Marked(marks)) => self.numbers(&[0, marks.number()]),
+            Ok(Told::Called(reply)) => self.reply(reply),
+            Err(fault) => self.numbers(&[fault.number(), place]),
+        }
+    }
+
+    /// Writes 0 and what a bank's reply tells.
+    fn reply(&mut self, reply: Reply)
+        requires room { self.old.at + 8 ≤ length self.old.out.now }
+        requires short { FewShown (Ok reply) }
+        ensures same { self.new.out.ghost_name ≡ self.old.out.ghost_name }
+        ensures writes { Writes self.old.at self.old.out.now self.new.at self.new.out.now (bytes (shown reply)) }
+    {
+        match reply {
+            Reply::Done => self.numbers(&[0]),
+            Reply::Took { serial } => self.numbers(&[0, serial]),
+            Reply::Stepped { digits } => self.numbers(&[0, digits]),
+            Reply::Shown { made, s } => self.numbers(&[0, made, s]),
+            Reply::Told(answer) => self.numbers(&[0, answer.word, answer.marks.number()]),
+        }
+    }
+
+    /// Writes some numbers, one after the other.
+    #[tactic(auto, using(crate::proofs::Written::wrote_none, crate::proofs::Written::wrote_more, crate::proofs::Written::more_fits))]
+    fn numbers(&mut self, numbers: &[u32])
+        requires room { self.old.at + 8 ≤ length self.old.out.now }
+        requires short { length (bytes numbers.now) ≤ 8 }
+        ensures same { self.new.out.ghost_name ≡ self.old.out.ghost_name }
+        ensures writes { Writes self.old.at self.old.out.now self.new.at self.new.out.now (bytes numbers.now) }
+    {
+        for number in numbers {
+            self.number(*number);
+        }
+    }
+
+    /// Writes a number in its shortest form.
+    // group by group, and not by `encode`: a list of groups that was just written and is then moved takes half again the time of a record
+    #[tactic(auto, using(crate::proofs::Grouping::begun, crate::proofs::Grouping::one_more, crate::proofs::Grouping::finished, crate::proofs::Grouping::room))]
+    fn number(&mut self, number: u32)
+        requires { self.old.at + length (encoded number) ≤ length self.old.out.now }
+        ensures same { self.new.out.ghost_name ≡ self.old.out.ghost_name }
+        ensures writes { Writes self.old.at self.old.out.now self.new.at self.new.out.now (encoded number) }
+    {
+        let mut rest = number;
+        while rest >= 128 {
+            self.byte(128 + (rest % 128) as u8);
+            rest /= 128;
+        }
+        self.byte(rest as u8);
+    }
+
+    /// Writes a byte.
+    fn byte(&mut self, byte: u8)
+        requires { self.old.at < length self.old.out.now }
+        ensures same { self.new.out.ghost_name ≡ self.old.out.ghost_name }
+        ensures writes { Writes self.old.at self.old.out.now self.new.at self.new.out.now (byte ∷ []) }
+    {
+        self.out[self.at] = byte;
+        self.at += 1;
     }
 }
