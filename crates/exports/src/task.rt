@@ -39,6 +39,8 @@ impl Task for Operand {
 
     ghost right = { λ o r. ReciprocalRoot o.k o.q o.x r.f };
 
+    // each make's digits in a function of its own: with both makes in one, the loops were laid out to take a twentieth longer
+    #[inline(never)]
     fn by<S: Selector, F: NumberForm>(&self, make: &Make<'_, S, F>) -> Outcome {
         work(make, *self)
     }
