@@ -17,7 +17,7 @@ use Rattle.protocol.specs.Bank.Lane.{free, held}
 use Rattle.protocol.specs.Promise.{RefusalsLeave}
 
 -- a lane that is written as it was
-same_lane : (i : ℕ) (f : Lane → Lane) (lanes : ℕ → Lane) → f (lanes i) ≡ lanes i → lanes ≡ at i f lanes
+pub same_lane : (i : ℕ) (f : Lane → Lane) (lanes : ℕ → Lane) → f (lanes i) ≡ lanes i → lanes ≡ at i f lanes
 same_lane i f lanes e = fun_ext (λ k. go k (eqb k i) refl)
   where
     go : (k : ℕ) (x : Bool) → eqb k i ≡ x → lanes k ≡ at i f lanes k
