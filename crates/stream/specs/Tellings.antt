@@ -14,7 +14,7 @@ telling (Noted n) = 0 ∷ n ∷ []
 telling (Marked k) = 0 ∷ mark_sets.number k ∷ []
 telling (Called r) = shown r
 
--- its numbers fit into 8 bytes
+-- it is small enough for its numbers to fit into 8 bytes
 abbrev pub IsShortReply : Result Reply Fault → Type 0
 IsShortReply (Ok r) = FewShown (Ok r)
 IsShortReply (Err f) = Unit {0}

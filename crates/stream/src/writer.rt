@@ -90,7 +90,7 @@ impl<'a> Writer<'a> {
     }
 
     /// Writes a number in its shortest form.
-    // group by group, and not by `encode`: a list of groups that was just written and is then moved takes half again the time of a record
+    // not by `encode`: it gives a list, and to move a list that was just filled byte by byte makes the processor wait; a record then took half as long again
     #[tactic(auto, using(crate::proofs::Grouping::begun, crate::proofs::Grouping::one_more, crate::proofs::Grouping::finished, crate::proofs::Grouping::room))]
     fn number(&mut self, number: u32)
         requires { self.old.at + length (encoded number) ≤ length self.old.out.now }
